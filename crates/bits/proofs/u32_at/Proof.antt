@@ -1,0 +1,71 @@
+-- `u32_at` meets its contract: past the end it is 0, else a sum of four bytes, each below 256. Assumes nothing.
+use borrow.Author.Needs.{needs}
+use native.Mathlib.Omega.{arith}
+use Rattle.bits.proofs.Past.{past32}
+use Rattle.bits.proofs.u32_at.Statement.{statement}
+use Rattle.bits.proofs.u32_at.Tie as tie
+
+returns : tie.Need-returns
+returns c = (past32 (c .before .before .args .s .now) _ (c .if1 .taken), omega arith)
+
+byte-at-requires : tie.Need-byte-at-requires
+byte-at-requires c κs = search needs
+
+add-byte-at : tie.Need-add-byte-at
+add-byte-at c = search needs
+
+byte-at-requires-2 : tie.Need-byte-at-requires-2
+byte-at-requires-2 c κs = search needs
+
+mul-result : tie.Need-mul-result
+mul-result c = search needs
+
+add-result : tie.Need-add-result
+add-result c = search needs
+
+add-byte-at-2 : tie.Need-add-byte-at-2
+add-byte-at-2 c = search needs
+
+byte-at-requires-3 : tie.Need-byte-at-requires-3
+byte-at-requires-3 c κs = search needs
+
+mul-result-2 : tie.Need-mul-result-2
+mul-result-2 c = search needs
+
+add-result-2 : tie.Need-add-result-2
+add-result-2 c = search needs
+
+add-byte-at-3 : tie.Need-add-byte-at-3
+add-byte-at-3 c = search needs
+
+byte-at-requires-4 : tie.Need-byte-at-requires-4
+byte-at-requires-4 c κs = search needs
+
+mul-result-3 : tie.Need-mul-result-3
+mul-result-3 c = search needs
+
+add-result-3 : tie.Need-add-result-3
+add-result-3 c = search needs
+
+returns-2 : tie.Need-returns-2
+returns-2 c = search needs
+
+pub u32-at-spec : {M : Type 1} → statement M
+u32-at-spec =
+    tie.close
+    (tie.spec
+    returns
+    byte-at-requires
+    add-byte-at
+    byte-at-requires-2
+    mul-result
+    add-result
+    add-byte-at-2
+    byte-at-requires-3
+    mul-result-2
+    add-result-2
+    add-byte-at-3
+    byte-at-requires-4
+    mul-result-3
+    add-result-3
+    returns-2)

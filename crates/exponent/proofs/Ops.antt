@@ -1,0 +1,152 @@
+-- Products, quotients and sums of finite values, by any fractions that the operands equal: what `round` is handed. Assumes nothing.
+use mathlib.Core.Path.{_≡_, refl, sym, ap, _∙_, subst}
+use Prim.Native.Nat.{ℕ, zero, suc, _+_, _-_, _*_, _^_, _≤_, _<_}
+use native.Mathlib.Nat.{le-trans, le-of-eq, lt-irrefl, not-le-of-lt, lt-of-not-le, zero-mul, mul-pos, mul-comm, mul-assoc, mul-left-comm, mul-right-comm, mul-mul-mul-comm, le-of-mul-le-mul-right, mul-le-mul-right, add-mul, mul-sub}
+use native.Mathlib.Omega.{arith}
+use mathlib.Core.Bool.{Bool, true, false, not, _&&_, Bool·beq, cond}
+use lib.IntN.{ℤ}
+use lib.Dec.{T, ltb, eqb, eqb→eq, ltb→lt, lt→ltb, not-T}
+use lib.Ieee.{Float, nan, inf, fin, binary64, up, down, unlike, round, sum, add, mul, div}
+use lib.Ieee.Fits.{up-pos, down-pos}
+use lib.Ieee.Bits.{cond-no, is-true}
+use lib.Ieee.Exact.{HasValue}
+use lib.Ieee.Order.{transfer}
+use lib.Ieee.Scale.{round-same, grid, overflow}
+use Rattle.exponent.proofs.Rounded.{RoundsRelative, rounded-relative}
+use Rattle.exponent.specs.Steps.{plus, times, over}
+
+signs : {s s' t t' : Bool} → s ≡ s' → t ≡ t' → (a b : ℕ) → round binary64 (unlike s t) a b ≡ round binary64 (unlike s' t') a b
+signs p q a b = λ i. round binary64 (unlike (p i) (q i)) a b
+
+pub mul-value : (x y : Float) (s t : Bool) (a c b d : ℕ) → 0 < c → 0 < d → HasValue x s a c → HasValue y t b d → times x y ≡ round binary64 (unlike s t) (a * b) (c * d)
+unfolding mul
+mul-value nan y s t a c b d C D h k = absurd h
+mul-value (inf i) y s t a c b d C D h k = absurd h
+mul-value (fin i m e) nan s t a c b d C D h k = absurd k
+mul-value (fin i m e) (inf j) s t a c b d C D h k = absurd k
+mul-value (fin i m e) (fin j n f) s t a c b d C D h k =
+    signs (h .0) (k .0) (m * up e * (n * up f)) (down e * down f)
+    ∙ round-same binary64 (unlike s t) (m * up e * (n * up f)) (down e * down f) (a * b) (c * d) (mul-pos (down-pos e) (down-pos f)) (mul-pos C D)
+    (mul-mul-mul-comm (m * up e) (n * up f) c d ∙ ap (λ (z : ℕ). z * (n * up f * d)) (h .1) ∙ ap (λ (z : ℕ). a * down e * z) (k .1) ∙ mul-mul-mul-comm a (down e) b (down f))
+
+-- n * up f * d ≡ b * down f is above zero, so n is
+nonzero : (n u d b w : ℕ) → n * u * d ≡ b * w → 0 < b → 0 < w → n ≡ 0 → ⊥
+nonzero n u d b w e B W z =
+    let p : n * (u * d) ≡ 0 = ap (λ (i : ℕ). i * (u * d)) z ∙ zero-mul (u * d) in
+    omega (arith, mul-pos B W)
+
+cross : (A B c d a b p q : ℕ) → A * c ≡ a * p → B * d ≡ b * q → A * q * (b * c) ≡ a * d * (B * p)
+cross A B c d a b p q h k =
+    let l : A * q * (b * c) ≡ A * c * (b * q) = simp (mul-assoc, mul-comm, mul-left-comm) in
+    let r : a * p * (B * d) ≡ a * d * (B * p) = simp (mul-assoc, mul-comm, mul-left-comm) in
+    l ∙ ap (λ (z : ℕ). z * (b * q)) h ∙ ap (λ (z : ℕ). a * p * z) (sym k) ∙ r
+
+pub div-value : (x y : Float) (s t : Bool) (a c b d : ℕ) → 0 < c → 0 < b → HasValue x s a c → HasValue y t b d → over x y ≡ round binary64 (unlike s t) (a * d) (b * c)
+unfolding div
+div-value nan y s t a c b d C B h k = absurd h
+div-value (inf i) y s t a c b d C B h k = absurd h
+div-value (fin i m e) nan s t a c b d C B h k = absurd k
+div-value (fin i m e) (inf j) s t a c b d C B h k = absurd k
+div-value (fin i m e) (fin j n f) s t a c b d C B h k =
+    let N : 0 < n = some n (nonzero n (up f) d b (down f) (k .1) B (down-pos f)) in
+    cond-no (eqb n 0) (cond (eqb m 0) nan (inf (unlike i j))) (round binary64 (unlike i j) (m * up e * down f) (n * up f * down e)) (not-T (eqb n 0) (λ (z : T (eqb n 0)). nonzero n (up f) d b (down f) (k .1) B (down-pos f) (eqb→eq n 0 z)))
+    ∙ signs (h .0) (k .0) (m * up e * down f) (n * up f * down e)
+    ∙ round-same binary64 (unlike s t) (m * up e * down f) (n * up f * down e) (a * d) (b * c) (mul-pos (mul-pos N (up-pos f)) (down-pos e)) (mul-pos B C)
+    (cross (m * up e) (n * up f) c d a b (down e) (down f) (h .1) (k .1))
+  where
+    some : (n : ℕ) → (n ≡ 0 → ⊥) → 0 < n
+    some n h = omega arith
+
+-- ---- sums: a first operand with no sign, and a second of either sign, which is no larger in size where its sign is set
+abbrev pub apply : Bool → ℕ → ℕ → ℕ
+apply false x y = x + y
+apply true x y = x - y
+
+pub spread : (s : Bool) (x y z : ℕ) → apply s x y * z ≡ apply s (x * z) (y * z)
+spread false x y z = add-mul x y z
+spread true x y z = mul-comm (x - y) z ∙ mul-sub z x y ∙ (λ i. mul-comm z x i - mul-comm z y i)
+
+sum-plus : (A B C : ℕ) → sum binary64 false A false B C ≡ round binary64 false (A + B) C
+unfolding sum
+sum-plus A B C = refl
+
+sum-minus : (A B C : ℕ) → B ≤ A → sum binary64 false A true B C ≡ round binary64 false (A - B) C
+unfolding sum
+sum-minus A B C h = cond-no (ltb A B) (round binary64 true (B - A) C) (round binary64 false (A - B) C) (not-T (ltb A B) (λ (t : T (ltb A B)). not-le-of-lt (ltb→lt A B t) h))
+
+-- A / p is a / c and B / q is b / d
+sum-cross : (s : Bool) (A B c d a b p q : ℕ) → A * c ≡ a * p → B * d ≡ b * q → apply s (A * q) (B * p) * (c * d) ≡ apply s (a * d) (b * c) * (p * q)
+sum-cross s A B c d a b p q h k =
+    let x : A * q * (c * d) ≡ a * d * (p * q) = left ∙ ap (λ (z : ℕ). z * (q * d)) h ∙ left' in
+    let y : B * p * (c * d) ≡ b * c * (p * q) = right ∙ ap (λ (z : ℕ). z * (p * c)) k ∙ right' in
+    spread s (A * q) (B * p) (c * d) ∙ both s x y ∙ sym (spread s (a * d) (b * c) (p * q))
+  where
+    left : A * q * (c * d) ≡ A * c * (q * d)
+    left = simp (mul-assoc, mul-comm, mul-left-comm)
+
+    left' : a * p * (q * d) ≡ a * d * (p * q)
+    left' = simp (mul-assoc, mul-comm, mul-left-comm)
+
+    right : B * p * (c * d) ≡ B * d * (p * c)
+    right = simp (mul-assoc, mul-comm, mul-left-comm)
+
+    right' : b * q * (p * c) ≡ b * c * (p * q)
+    right' = simp (mul-assoc, mul-comm, mul-left-comm)
+
+    both : (s : Bool) {x y x' y' : ℕ} → x ≡ x' → y ≡ y' → apply s x y ≡ apply s x' y'
+    both s e f = λ i. apply s (e i) (f i)
+
+smaller : (A B c d a b p q : ℕ) → 0 < c → 0 < d → A * c ≡ a * p → B * d ≡ b * q → b * c ≤ a * d → B * p ≤ A * q
+smaller A B c d a b p q C D h k l = transfer B A q p b a d c D C k h l
+
+pub add-value : (x y : Float) (s : Bool) (a c b d : ℕ) → 0 < c → 0 < d → HasValue x false a c → HasValue y s b d → b * c ≤ a * d → plus x y ≡ round binary64 false (apply s (a * d) (b * c)) (c * d)
+unfolding add
+add-value nan y s a c b d C D h k l = absurd h
+add-value (inf i) y s a c b d C D h k l = absurd h
+add-value (fin i m e) nan s a c b d C D h k l = absurd k
+add-value (fin i m e) (inf j) s a c b d C D h k l = absurd k
+add-value (fin i m e) (fin j n f) s a c b d C D h k l =
+    (λ i'. sum binary64 (h .0 i') (m * up e * down f) (k .0 i') (n * up f * down e) (down e * down f))
+    ∙ go s
+    ∙ round-same binary64 false (apply s (m * up e * down f) (n * up f * down e)) (down e * down f) (apply s (a * d) (b * c)) (c * d) (mul-pos (down-pos e) (down-pos f)) (mul-pos C D)
+    (sum-cross s (m * up e) (n * up f) c d a b (down e) (down f) (h .1) (k .1))
+  where
+    go : (s : Bool) → sum binary64 false (m * up e * down f) s (n * up f * down e) (down e * down f) ≡ round binary64 false (apply s (m * up e * down f) (n * up f * down e)) (down e * down f)
+    go false = sum-plus (m * up e * down f) (n * up f * down e) (down e * down f)
+    go true = sum-minus (m * up e * down f) (n * up f * down e) (down e * down f) (smaller (m * up e) (n * up f) c d a b (down e) (down f) C D (h .1) (k .1) l)
+
+-- ---- each operation is its exact result within one part in 2 ^ 53, where that is 2 ^ -1022 at least and does not overflow
+pub mul-relative : (x y : Float) (s t : Bool) (a c b d : ℕ) → 0 < c → 0 < d → HasValue x s a c → HasValue y t b d
+    → 2 ^ 52 * (c * d) ≤ a * b * 2 ^ 1074 → grid binary64 (a * b) (c * d) < overflow binary64 → RoundsRelative (times x y) (unlike s t) (a * b) (c * d)
+mul-relative x y s t a c b d C D h k N O =
+    subst (λ (z : Float). RoundsRelative z (unlike s t) (a * b) (c * d)) (sym (mul-value x y s t a c b d C D h k)) (rounded-relative (unlike s t) (a * b) (c * d) (mul-pos C D) N O)
+
+pub div-relative : (x y : Float) (s t : Bool) (a c b d : ℕ) → 0 < c → 0 < b → HasValue x s a c → HasValue y t b d
+    → 2 ^ 52 * (b * c) ≤ a * d * 2 ^ 1074 → grid binary64 (a * d) (b * c) < overflow binary64 → RoundsRelative (over x y) (unlike s t) (a * d) (b * c)
+div-relative x y s t a c b d C B h k N O =
+    subst (λ (z : Float). RoundsRelative z (unlike s t) (a * d) (b * c)) (sym (div-value x y s t a c b d C B h k)) (rounded-relative (unlike s t) (a * d) (b * c) (mul-pos B C) N O)
+
+pub add-relative : (x y : Float) (s : Bool) (a c b d : ℕ) → 0 < c → 0 < d → HasValue x false a c → HasValue y s b d → b * c ≤ a * d
+    → 2 ^ 52 * (c * d) ≤ apply s (a * d) (b * c) * 2 ^ 1074 → grid binary64 (apply s (a * d) (b * c)) (c * d) < overflow binary64 → RoundsRelative (plus x y) false (apply s (a * d) (b * c)) (c * d)
+add-relative x y s a c b d C D h k l N O =
+    subst (λ (z : Float). RoundsRelative z false (apply s (a * d) (b * c)) (c * d)) (sym (add-value x y s a c b d C D h k l)) (rounded-relative false (apply s (a * d) (b * c)) (c * d) (mul-pos C D) N O)
+
+-- the other way round: the second operand, which has the sign, is larger
+sum-less : (A B C : ℕ) → A < B → sum binary64 false A true B C ≡ round binary64 true (B - A) C
+unfolding sum
+sum-less A B C h = ap (λ (t : Bool). cond t (round binary64 true (B - A) C) (round binary64 false (A - B) C)) (is-true (ltb A B) (lt→ltb A B h))
+
+pub sub-value-less : (x y : Float) (a c b d : ℕ) → 0 < c → 0 < d → HasValue x false a c → HasValue y true b d → a * d < b * c → plus x y ≡ round binary64 true (b * c - a * d) (d * c)
+unfolding add
+sub-value-less nan y a c b d C D h k l = absurd h
+sub-value-less (inf i) y a c b d C D h k l = absurd h
+sub-value-less (fin i m e) nan a c b d C D h k l = absurd k
+sub-value-less (fin i m e) (inf j) a c b d C D h k l = absurd k
+sub-value-less (fin i m e) (fin j n f) a c b d C D h k l =
+    (λ i'. sum binary64 (h .0 i') (m * up e * down f) (k .0 i') (n * up f * down e) (down e * down f))
+    ∙ sum-less (m * up e * down f) (n * up f * down e) (down e * down f) (strict (m * up e) (n * up f) (down e) (down f) (down-pos e) (down-pos f) (h .1) (k .1))
+    ∙ round-same binary64 true (n * up f * down e - m * up e * down f) (down e * down f) (b * c - a * d) (d * c) (mul-pos (down-pos e) (down-pos f)) (mul-pos D C)
+    (sum-cross true (n * up f) (m * up e) d c b a (down f) (down e) (k .1) (h .1) ∙ ap (λ (z : ℕ). (b * c - a * d) * z) (mul-comm (down f) (down e)))
+  where
+    strict : (A B p q : ℕ) → 0 < p → 0 < q → A * c ≡ a * p → B * d ≡ b * q → A * q < B * p
+    strict A B p q P Q h k = lt-of-not-le (λ (g : B * p ≤ A * q). not-le-of-lt l (transfer b a d c B A q p Q P (sym k) (sym h) g))

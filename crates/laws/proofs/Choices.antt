@@ -1,0 +1,81 @@
+-- Choices: `cond`, `unless`, chains of tests and of refusal numbers, forwards (what the code hands back is what the definition picks) and backwards
+-- (a chain that ended in acceptance passed each test). Assumes nothing.
+use mathlib.Core.Path.{_≡_, refl, sym, ap, _∙_, subst}
+use mathlib.Core.Bool.{Bool, true, false, not, _&&_, cond}
+use Prim.Native.Nat.{ℕ}
+use native.Mathlib.Omega.{arith}
+use lib.Dec.{T, eqb}
+use borrow.Author.Tests.{eq-eqb, ne-eqb, eqb-true, not-true, not-false}
+use Rattle.laws.specs.Choice.{unless}
+
+-- two answers that meet one equation are one answer
+pub settled : {A : Type 0} {x y z : A} → x ≡ z → y ≡ z → x ≡ y
+settled e h = e ∙ sym h
+
+pub false-true : {A : Type 0} → false ≡ true → A
+false-true e = absurd (subst T (sym e) tt)
+
+-- ---- one choice
+
+-- an arm of the code is the arm that `cond` picks
+pub if-true : {A : Type 0} {x z : A} (y : A) {t : Bool} → t ≡ true → z ≡ x → z ≡ cond t x y
+if-true {A} {x} {z} y {t} h e = e ∙ sym (ap (λ (t : Bool). cond t x y) h)
+
+pub if-false : {A : Type 0} {y z : A} (x : A) {t : Bool} → t ≡ false → z ≡ y → z ≡ cond t x y
+if-false {A} {y} {z} x {t} h e = e ∙ sym (ap (λ (t : Bool). cond t x y) h)
+
+-- what holds of both arms holds of the choice
+pub cond-ind : {A : Type 0} (P : A → Type 0) (b : Bool) {x y : A} → P x → P y → P (cond b x y)
+cond-ind P true p q = p
+cond-ind P false p q = q
+
+-- what is computed holds of what it is equal to
+pub is : {A : Type 0} (p : A → Bool) {x y : A} {b : Bool} → x ≡ y → p x ≡ b → p y ≡ b
+is p e h = sym (ap p e) ∙ h
+
+-- ---- chains of `unless`: the flag r of the code is the test t
+
+-- `if !r { return z }` was taken, or left
+pub stops : {A : Type 0} {n z : A} (rest : A) {r t : Bool} → r ≡ t → not r ≡ true → z ≡ n → z ≡ unless t n rest
+stops rest {r} {t} e h k = if-false _ (sym e ∙ not-true r h) k
+
+pub goes : {A : Type 0} {rest z : A} (n : A) {r t : Bool} → r ≡ t → not r ≡ false → z ≡ rest → z ≡ unless t n rest
+goes n {r} {t} e h k = if-true _ (sym e ∙ not-false r h) k
+
+-- the same of a refusal number r, 0 for none: `if r != 0 { return z }`
+pub number-stops : {A : Type 0} {n z : A} (rest : A) {r m : ℕ} → r ≡ m → (r ≡ 0 → ⊥) → z ≡ n → z ≡ unless (eqb m 0) n rest
+number-stops rest {r} {m} e h k = if-false _ (ne-eqb m 0 (λ q. h (e ∙ q))) k
+
+pub number-goes : {A : Type 0} {rest z : A} (n : A) {r m : ℕ} → r ≡ m → r ≡ 0 → z ≡ rest → z ≡ unless (eqb m 0) n rest
+number-goes n {r} {m} e h k = if-true _ (eq-eqb m 0 (sym e ∙ h)) k
+
+-- the number itself is handed on in a refusal
+pub number-no : {A : Type 0} (x : A) (refusal : ℕ → A) {n m : ℕ} → n ≡ m → (n ≡ 0 → ⊥) → refusal n ≡ unless (eqb m 0) (refusal m) x
+number-no x refusal {n} {m} e h = number-stops x e h (ap refusal e)
+
+-- ---- chains of `&&`: one that failed ends it, one that held hands on to the next
+
+pub stop : {a r : Bool} (x : Bool) → r ≡ a → not r ≡ true → false ≡ a && x
+stop {a} {r} x e h = rw (← e, not-true r h)
+
+pub go : {a r x y : Bool} → r ≡ a → not r ≡ false → y ≡ x → y ≡ a && x
+go {a} {r} e h k = rw (← e, not-false r h) k
+
+-- ---- backwards
+
+pub both : (a b : Bool) → (a && b) ≡ true → (a ≡ true) × (b ≡ true)
+both true b h = (refl, h)
+both false b h = false-true h
+
+-- a chain that ends in 0 passed its first test
+pub passed-one : (t : Bool) (n rest : ℕ) → (n ≡ 0 → ⊥) → unless t n rest ≡ 0 → (t ≡ true) × (rest ≡ 0)
+passed-one true n rest f h = (refl, h)
+passed-one false n rest f h = absurd (f h)
+
+-- and a number that is handed on is 0 where the chain is
+pub passed-number : (m rest : ℕ) → unless (eqb m 0) m rest ≡ 0 → (m ≡ 0) × (rest ≡ 0)
+passed-number m rest h = by (eqb m 0) refl h
+  where
+    by : (t : Bool) → eqb m 0 ≡ t → cond t rest m ≡ 0 → (m ≡ 0) × (rest ≡ 0)
+    by true e h = (eqb-true m 0 e, h)
+    by false e h = false-true (sym e ∙ eq-eqb m 0 h)

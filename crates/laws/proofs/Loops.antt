@@ -1,0 +1,92 @@
+-- The laws of `for` and `first`: a loop's invariant is "what is left to do, done to the present state, is the whole". Assumes nothing.
+use mathlib.Core.Path.{_≡_, refl, sym, ap, _∙_}
+use mathlib.Core.Bool.{Bool, true, false, cond}
+use mathlib.Core.List.{List}
+use mathlib.Core.Logic.{⊎-elim}
+use Prim.Native.Nat.{ℕ, zero, suc, _+_, _-_, _<_, _≤_}
+use native.Mathlib.Omega.{arith}
+use native.Mathlib.Nat.{add-zero}
+use Rattle.laws.specs.Loop.{turns, for, search-on, first}
+
+module _ {S : Type 0} (f : ℕ → S → S) (i b : ℕ) where
+  -- one turn is done, and it was the definition's
+  pub again : {s t w : S} → i < b → t ≡ f i s → for i b f s ≡ w → for (i + 1) b f t ≡ w
+  unfolding turns
+  again {s} {t} {w} l e inv =
+      let k : b - i ≡ suc (b - (i + 1)) = omega arith in
+      ap (turns f (b - (i + 1)) (i + 1)) e ∙ sym (ap (λ (n : ℕ). turns f n i s) k) ∙ inv
+
+  -- no turn is left
+  pub ended : {s w : S} → b ≤ i → for i b f s ≡ w → s ≡ w
+  unfolding turns
+  ended {s} {w} l inv =
+      let k : b - i ≡ 0 = omega arith in
+      sym (ap (λ (n : ℕ). turns f n i s) k) ∙ inv
+
+still : {S : Type 0} (f : ℕ → S → S) (k i : ℕ) {s : S} → ((j : ℕ) → f j s ≡ s) → turns f k i s ≡ s
+unfolding turns
+still f zero i h = refl
+still f (suc k) i h = ap (turns f k (i + 1)) (h i) ∙ still f k (i + 1) h
+
+-- a state that no turn changes is the whole's: the code may stop there
+pub halted : {S : Type 0} (f : ℕ → S → S) (i b : ℕ) {s w : S} → ((j : ℕ) → f j s ≡ s) → for i b f s ≡ w → s ≡ w
+halted f i b h inv = sym (still f (b - i) i h) ∙ inv
+
+-- the last turn: k + 1 turns are k of them and one more
+pub turns-last : {S : Type 0} (f : ℕ → S → S) (k i : ℕ) (s : S) → turns f (suc k) i s ≡ f (i + k) (turns f k i s)
+unfolding turns
+turns-last f zero i s = ap (λ (n : ℕ). f n s) (sym (add-zero i))
+turns-last f (suc k) i s = turns-last f k (i + 1) (f i s) ∙ ap (λ (n : ℕ). f n (turns f k (i + 1) (f i s))) (omega arith)
+
+-- what holds at the start of a loop, and is kept by each turn, holds at its end
+module _ {S : Type 0} (f : ℕ → S → S) (P : ℕ → S → Type 0) (b : ℕ) (step : (j : ℕ) (t : S) → j < b → P j t → P (j + 1) (f j t)) where
+  pub turns-ind : (k i : ℕ) (s : S) → i + k ≡ b → P i s → P b (turns f k i s)
+  unfolding turns
+  turns-ind zero i s e p = rw (← e) (rw add-zero p)
+  turns-ind (suc k) i s e p = turns-ind k (i + 1) (f i s) (omega arith) (step i s (omega arith) p)
+
+  pub for-ind : (s : S) → P 0 s → P b (for 0 b f s)
+  for-ind s p = turns-ind (b - 0) 0 s (omega arith) p
+
+-- the same of a property that does not speak of the turn
+pub for-keeps : {S : Type 0} (P : S → Type 0) (f : ℕ → S → S) (b : ℕ) → ((i : ℕ) → i < b → (s : S) → P s → P (f i s)) → (s : S) → P s → P (for 0 b f s)
+for-keeps P f b keeps s p = for-ind f (λ (i : ℕ) (t : _). P t) b (λ j t l. keeps j l t) s p
+
+-- loops whose turns agree agree
+module _ {S : Type 0} (f g : ℕ → S → S) (b : ℕ) (same : (i : ℕ) → i < b → (s : S) → f i s ≡ g i s) where
+  turns-same : (k i : ℕ) (s : S) → i + k ≤ b → turns f k i s ≡ turns g k i s
+  unfolding turns
+  turns-same zero i s l = refl
+  turns-same (suc k) i s l = turns-same k (i + 1) (f i s) (omega arith) ∙ ap (turns g k (i + 1)) (same i (omega arith) s)
+
+  pub for-same : (s : S) → for 0 b f s ≡ for 0 b g s
+  for-same s = turns-same (b - 0) 0 s (omega arith)
+
+-- a search: found here, not here, or at the end; the code hands back i in the first and the last case
+module _ (p : ℕ → Bool) (i b : ℕ) where
+  first-step : i < b → first p i b ≡ cond (p i) i (first p (i + 1) b)
+  unfolding search-on
+  first-step l =
+      let k : b - i ≡ suc (b - (i + 1)) = omega arith in
+      ap (λ (n : ℕ). search-on p n i) k
+
+  pub first-here : {w : ℕ} → i < b → p i ≡ true → first p i b ≡ w → i ≡ w
+  first-here {w} l h inv = sym (ap (λ (t : Bool). cond t i (first p (i + 1) b)) h) ∙ sym (first-step l) ∙ inv
+
+  pub first-on : {w : ℕ} → i < b → p i ≡ false → first p i b ≡ w → first p (i + 1) b ≡ w
+  first-on {w} l h inv = sym (ap (λ (t : Bool). cond t i (first p (i + 1) b)) h) ∙ sym (first-step l) ∙ inv
+
+  pub first-none : {w : ℕ} → b ≤ i → first p i b ≡ w → i ≡ w
+  unfolding search-on
+  first-none {w} l inv =
+      let k : b - i ≡ 0 = omega arith in
+      sym (ap (λ (n : ℕ). search-on p n i) k) ∙ inv
+
+-- two searches by tests that agree find the same
+search-same : (p q : ℕ → Bool) (b k i : ℕ) → i + k ≡ b → ((j : ℕ) → j < b → p j ≡ q j) → search-on p k i ≡ search-on q k i
+unfolding search-on
+search-same p q b zero i e h = refl
+search-same p q b (suc k) i e h = rw (h i (omega arith), search-same p q b k (i + 1) (omega arith) h)
+
+pub first-same : (p q : ℕ → Bool) (b : ℕ) → ((j : ℕ) → j < b → p j ≡ q j) → first p 0 b ≡ first q 0 b
+first-same p q b h = search-same p q b (b - 0) 0 (omega arith) h

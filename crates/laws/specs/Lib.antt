@@ -1,0 +1,5 @@
+-- The words that the contracts of every crate use: a loop, a search, a chain of tests, floats, and room that is written at its front.
+pub mod Loop
+pub mod Choice
+pub mod Floats
+pub mod Room
