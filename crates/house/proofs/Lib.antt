@@ -1,0 +1,4 @@
+pub mod Files
+pub mod Repeating
+pub mod Columns
+pub mod Taking

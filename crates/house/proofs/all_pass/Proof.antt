@@ -1,0 +1,58 @@
+use borrow.Author.Needs.{needs}
+use Prim.Native.Nat.{_+_, _*_, _≤_}
+use mathlib.Core.Path.{_≡_, refl}
+use lib.ListN.{length}
+use Rattle.house.specs.File.{quotes}
+use Rattle.house.specs.Check.{allPass}
+use Rattle.house.proofs.Repeating.{bad, good, all-good}
+use Rattle.house.proofs.all_pass.Statement.{statement}
+use Rattle.house.proofs.all_pass.Tie as tie
+
+abbrev Inv-loop : tie.InvT-loop
+Inv-loop s from n at₀ left₀ at left = (at + 32 * left ≤ length s) × (allPass (quotes s at left) ≡ allPass (quotes s from n))
+
+abbrev μ-loop : tie.MeasureT-loop
+μ-loop s from n at₀ left₀ at left = left
+
+loop-holds : tie.Need-loop-holds Inv-loop μ-loop
+loop-holds c = search needs
+
+quote-at-requires : tie.Need-quote-at-requires Inv-loop μ-loop
+quote-at-requires c κs = search needs
+
+quote-passes-requires : tie.Need-quote-passes-requires Inv-loop μ-loop
+quote-passes-requires c κs = search needs
+
+returns : tie.Need-returns Inv-loop μ-loop
+returns c = bad (c .before .before .quote-at .result) _ (c .before .before .before .before .loop .at) (c .before .before .before .before .loop .left) (c .before .quote-passes .result) _ (c .before .before .before .loop-test .taken) (c .before .before .quote-at .ensures) (c .before .quote-passes .ensures) (c .before .before .before .before .loop .inv .1) (c .if1 .taken)
+
+add-at : tie.Need-add-at Inv-loop μ-loop
+add-at c = search needs
+
+sub-left : tie.Need-sub-left Inv-loop μ-loop
+sub-left c = search needs
+
+loop-less : tie.Need-loop-less Inv-loop μ-loop
+loop-less c = search needs
+
+loop-again : tie.Need-loop-again Inv-loop μ-loop
+loop-again c = (search needs, good (c .before .before .quote-at .result) _ (c .before .before .before .before .loop .at) (c .before .before .before .before .loop .left) (c .before .quote-passes .result) _ (c .before .before .before .loop-test .taken) (c .before .before .quote-at .ensures) (c .before .quote-passes .ensures) (c .before .before .before .before .loop .inv .1) (c .if1 .left))
+
+returns-2 : tie.Need-returns-2 Inv-loop μ-loop
+returns-2 c = all-good _ (c .before .loop .at) (c .before .loop .left) _ (c .loop-test .left) (c .before .loop .inv .1)
+
+pub all-pass-spec : {M : Type 1} → statement M
+all-pass-spec =
+    tie.close
+    (tie.spec
+    Inv-loop
+    μ-loop
+    loop-holds
+    quote-at-requires
+    quote-passes-requires
+    returns
+    add-at
+    sub-left
+    loop-less
+    loop-again
+    returns-2)

@@ -1,0 +1,158 @@
+use borrow.Author.Needs.{needs}
+use native.Mathlib.Omega.{arith}
+use Prim.Native.Nat.{_+_, _*_, _-_, _≤_, _<_}
+use mathlib.Core.Logic.{⊎-elim}
+use mathlib.Core.Path.{_≡_, ap, _∙_}
+use lib.ListN.{length}
+use Rattle.house.proofs.Columns.{Column, column-start, column-skip, column-keep, column-end}
+use Rattle.house.proofs.Repeating.{rest, rest-start, rest-end, rest-drop, rest-keep}
+use Rattle.house.specs.File.{quotes}
+use Rattle.house.specs.Repeats.{kept}
+use Rattle.house.specs.Check.{kOf, wOf, weightOf}
+use Rattle.house.proofs.keep.Statement.{statement}
+use Rattle.house.proofs.keep.Tie as tie
+
+abbrev Inv-loop : tie.InvT-loop
+Inv-loop s from n k₀ w₀ weight₀ i₀ m₀ k w weight i m =
+    (i ≤ n)
+    × (m ≤ i)
+    × Column kOf (kept (quotes s from n)) (rest s from n i) m k₀ k
+    × Column wOf (kept (quotes s from n)) (rest s from n i) m w₀ w
+    × Column weightOf (kept (quotes s from n)) (rest s from n i) m weight₀ weight
+
+abbrev μ-loop : tie.MeasureT-loop
+μ-loop s from n k₀ w₀ weight₀ i₀ m₀ k w weight i m = n - i
+
+loop-holds : tie.Need-loop-holds Inv-loop μ-loop
+loop-holds c =
+    let a = c .before .before .before .before .args in
+    let e = rest-start (a .s .now) (a .from) (a .n) in
+    (search needs, search needs, column-start kOf _ _ (a .k .now) e, column-start wOf _ _ (a .w .now) e, column-start weightOf _ _ (a .weight .now) e)
+
+repeated-requires : tie.Need-repeated-requires Inv-loop μ-loop
+repeated-requires c κs = search needs
+
+mul-quote-at : tie.Need-mul-quote-at Inv-loop μ-loop
+mul-quote-at c = search needs
+
+add-quote-at : tie.Need-add-quote-at Inv-loop μ-loop
+add-quote-at c = search needs
+
+quote-at-requires : tie.Need-quote-at-requires Inv-loop μ-loop
+quote-at-requires c κs = search needs
+
+f64-of-requires : tie.Need-f64-of-requires Inv-loop μ-loop
+f64-of-requires c κs = search needs
+
+mul-k : tie.Need-mul-k Inv-loop μ-loop
+mul-k c = search needs
+
+slice-write-k : tie.Need-slice-write-k Inv-loop μ-loop
+slice-write-k c = search needs
+
+f64-of-requires-2 : tie.Need-f64-of-requires-2 Inv-loop μ-loop
+f64-of-requires-2 c κs = search needs
+
+mul-w : tie.Need-mul-w Inv-loop μ-loop
+mul-w c = search needs
+
+slice-write-w : tie.Need-slice-write-w Inv-loop μ-loop
+slice-write-w c = search needs
+
+f64-of-requires-3 : tie.Need-f64-of-requires-3 Inv-loop μ-loop
+f64-of-requires-3 c κs = search needs
+
+mul-weight : tie.Need-mul-weight Inv-loop μ-loop
+mul-weight c = search needs
+
+slice-write-weight : tie.Need-slice-write-weight Inv-loop μ-loop
+slice-write-weight c = search needs
+
+add-m : tie.Need-add-m Inv-loop μ-loop
+add-m c = search needs
+
+add-i : tie.Need-add-i Inv-loop μ-loop
+add-i c = search needs
+
+loop-less : tie.Need-loop-less Inv-loop μ-loop
+loop-less c = search needs
+
+loop-again : tie.Need-loop-again Inv-loop μ-loop
+loop-again c =
+    let y = c .before in
+    let l = y .before .before in
+    let a = l .before .before .before .before .before .args in
+    let old = l .loop in
+    let more = y .before .loop-test .taken in
+    let is = y .repeated .ensures in
+    let hk : old .m < length (old .k) = omega arith in
+    let hw : old .m < length (old .w) = omega arith in
+    let hz : old .m < length (old .weight) = omega arith in
+    ⊎-elim
+    (λ w.
+    let e = rest-keep (a .s .now) (a .from) (a .n) (old .i) (y .repeated .result) more is (w .0 .taken) in
+    let q = w .1 .ensures in (
+      search needs,
+      omega (arith, w .8),
+      column-keep kOf _ _ _ _ _ (old .m) _ _ (old .k) _ hk e (w .2 .ensures ∙ ap kOf q) (w .5) (w .8) (old .inv .2),
+      column-keep wOf _ _ _ _ _ (old .m) _ _ (old .w) _ hw e (w .3 .ensures ∙ ap wOf q) (w .6) (w .8) (old .inv .3),
+      column-keep weightOf _ _ _ _ _ (old .m) _ _ (old .weight) _ hz e (w .4 .ensures ∙ ap weightOf q) (w .7) (w .8) (old .inv .4),
+    ))
+    (λ w.
+    let e = rest-drop (a .s .now) (a .from) (a .n) (old .i) (y .repeated .result) more is (w .0 .left) in (
+      search needs,
+      omega (arith, w .4),
+      column-skip kOf _ _ _ (old .m) _ _ (old .k) _ e (w .1) (w .4) (old .inv .2),
+      column-skip wOf _ _ _ (old .m) _ _ (old .w) _ e (w .2) (w .4) (old .inv .3),
+      column-skip weightOf _ _ _ (old .m) _ _ (old .weight) _ e (w .3) (w .4) (old .inv .4),
+    ))
+    (c .if1 .came)
+
+same-length : tie.Need-same-length Inv-loop μ-loop
+same-length c = search needs
+
+same-length-2 : tie.Need-same-length-2 Inv-loop μ-loop
+same-length-2 c = search needs
+
+same-length-3 : tie.Need-same-length-3 Inv-loop μ-loop
+same-length-3 c = search needs
+
+returns : tie.Need-returns Inv-loop μ-loop
+returns c =
+    let l = c .before in
+    let a = l .before .before .before .before .before .args in
+    let e = rest-end (a .s .now) (a .from) (a .n) (l .loop .i) (c .loop-test .left) in
+    let hk : l .loop .m ≤ length (l .loop .k) = omega arith in
+    let hw : l .loop .m ≤ length (l .loop .w) = omega arith in
+    let hz : l .loop .m ≤ length (l .loop .weight) = omega arith in
+    let k = column-end kOf _ _ _ _ _ hk e (l .loop .inv .2) in
+    (k .0, (k .1, (column-end wOf _ _ _ _ _ hw e (l .loop .inv .3) .1, column-end weightOf _ _ _ _ _ hz e (l .loop .inv .4) .1)))
+
+pub keep-spec : {M : Type 1} → statement M
+keep-spec =
+    tie.close
+    (tie.spec
+    Inv-loop
+    μ-loop
+    loop-holds
+    repeated-requires
+    mul-quote-at
+    add-quote-at
+    quote-at-requires
+    f64-of-requires
+    mul-k
+    slice-write-k
+    f64-of-requires-2
+    mul-w
+    slice-write-w
+    f64-of-requires-3
+    mul-weight
+    slice-write-weight
+    add-m
+    add-i
+    loop-less
+    loop-again
+    same-length
+    same-length-2
+    same-length-3
+    returns)

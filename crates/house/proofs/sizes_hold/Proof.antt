@@ -1,0 +1,11 @@
+use Rattle.calibrate.specs.Entry.{sizesHold}
+use mathlib.Core.Path.{refl}
+use Rattle.house.proofs.sizes_hold.Statement.{statement}
+use Rattle.house.proofs.sizes_hold.Tie as tie
+
+returns : tie.Need-returns
+unfolding sizesHold
+returns c = refl
+
+pub sizes-hold-spec : {M : Type 1} → statement M
+sizes-hold-spec = tie.close (tie.spec returns)

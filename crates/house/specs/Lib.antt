@@ -1,0 +1,5 @@
+pub mod File
+pub mod Check
+pub mod Repeats
+pub mod Taken
+pub mod Encode

@@ -1,0 +1,272 @@
+// The house file. Nothing is copied out of its bytes but what is kept: counts and places say where each value stands. Every public function answers on every byte string.
+use calibrate::FitConfig;
+ghost use mathlib.Core.Path.{_≡_};
+ghost use mathlib.Core.Bool.{_&&_};
+ghost use mathlib.Core.List.{map};
+ghost use Prim.Native.Nat.{_+_, _*_, _≤_, _<_};
+ghost use lib.Dec.{leb};
+ghost use lib.ListN.{length};
+ghost use Rattle.laws.specs.Room.{atFront, written};
+ghost use Rattle.calibrate.specs.Entry.{passes as passesOf, sizesHold};
+ghost use Rattle.house.specs.File.{houseOf, f64At, tauOf, settingsAt, configOf, quoteAt, quotes};
+ghost use Rattle.house.specs.Check.{kOf, wOf, weightOf, quotePasses, allPass};
+ghost use Rattle.house.specs.Repeats.{sameQuote, among, kept};
+ghost use Rattle.house.specs.Taken.{refusalOf, takenOf, keptOf};
+
+// How many settings records (0 or 1) and how many observations a well-formed file has.
+pub enum House {
+    Malformed,
+    File { settings: usize, count: usize },
+}
+
+// A record as the file has it: the quote number, and the bits of three floats.
+pub struct Quote {
+    pub number: u64,
+    pub k: u64,
+    pub w: u64,
+    pub weight: u64,
+}
+
+// What became of a file: 0 or the refusal, its settings count, and how many records it has and how many are kept.
+pub struct Taken {
+    pub number: u32,
+    pub settings: usize,
+    pub read: usize,
+    pub kept: usize,
+}
+
+pub fn house_of(s: &[u8]) -> House
+    ensures { λ r. ⌜ r ≡ houseOf (now (s .entry)) ⌝ }
+{
+    let c = bits::u32_at(s, 0) as usize;
+    if 1 < c {
+        return House::Malformed;
+    }
+    let expiries = bits::u32_at(s, 4 + 88 * c);
+    if expiries != 1 {
+        return House::Malformed;
+    }
+    let n = bits::u32_at(s, 16 + 88 * c) as usize;
+    if 256 < n {
+        return House::Malformed;
+    }
+    let size = 20 + 88 * c + 32 * n;
+    if s.len() != size {
+        return House::Malformed;
+    }
+    House::File {
+        settings: c,
+        count: n,
+    }
+}
+
+// ---- tau and the settings
+
+// The float whose bits stand at a place.
+fn f64_at(s: &[u8], at: usize) -> f64
+    ensures { λ r. ⌜ r ≡ f64At (now (s .entry)) at ⌝ }
+{
+    bits::f64_of(bits::u64_at(s, at))
+}
+
+pub fn tau_of(s: &[u8], settings: usize) -> f64
+    ensures { λ r. ⌜ r ≡ tauOf (now (s .entry)) settings ⌝ }
+{
+    f64_at(s, bits::pick_count(settings == 0, 8, 96))
+}
+
+// The eleven values of a settings record.
+fn settings_at(s: &[u8]) -> FitConfig
+    ensures { λ r. ⌜ r ≡ settingsAt (now (s .entry)) ⌝ }
+{
+    FitConfig {
+        grid: bits::u64_at(s, 4) as usize,
+        refinements: bits::u64_at(s, 12) as usize,
+        max_recentres: bits::u64_at(s, 20) as usize,
+        sigma_lo: f64_at(s, 28),
+        sigma_hi: f64_at(s, 36),
+        a_min: f64_at(s, 44),
+        min_observations: bits::u64_at(s, 52) as usize,
+        max_rmse_vol: f64_at(s, 60),
+        pivot_tolerance: f64_at(s, 68),
+        feasibility_tolerance: f64_at(s, 76),
+        max_weight_ratio: f64_at(s, 84),
+    }
+}
+
+pub fn config_of(s: &[u8], settings: usize) -> FitConfig
+    ensures { λ r. ⌜ r ≡ configOf (now (s .entry)) settings ⌝ }
+{
+    if settings == 0 {
+        return FitConfig::defaults();
+    }
+    settings_at(s)
+}
+
+// ---- the checks that come before repeats are dropped
+
+fn sizes_hold(n: usize, config: FitConfig) -> bool
+    ensures { λ r. ⌜ r ≡ sizesHold n config ⌝ }
+{
+    (n <= 256)
+        & (config.grid <= 255)
+        & (config.refinements <= 1000)
+        & (config.max_recentres <= 1000)
+}
+
+// The record that starts at a place.
+fn quote_at(s: &[u8], at: usize) -> Quote
+    requires { ⌜ at ≤ length (now s) ⌝ }
+    ensures { λ r. ⌜ r ≡ quoteAt (now (s .entry)) at ⌝ }
+{
+    Quote {
+        number: bits::u64_at(s, at),
+        k: bits::u64_at(s, at + 8),
+        w: bits::u64_at(s, at + 16),
+        weight: bits::u64_at(s, at + 24),
+    }
+}
+
+fn passes(k: f64, w: f64, weight: f64) -> bool
+    ensures { λ r. ⌜ r ≡ passesOf k w weight ⌝ }
+{
+    bits::is_finite(k)
+        & bits::is_finite(w)
+        & (0.0 <= w)
+        & (bits::is_finite(weight) & (0.0 < weight))
+}
+
+fn quote_passes(q: Quote) -> bool
+    ensures { λ r. ⌜ r ≡ quotePasses q ⌝ }
+{
+    passes(bits::f64_of(q.k), bits::f64_of(q.w), bits::f64_of(q.weight))
+}
+
+// Whether each of n records passes check 10.
+fn all_pass(s: &[u8], from: usize, n: usize) -> bool
+    requires { ⌜ from + 32 * n ≤ length (now s) ⌝ }
+    ensures { λ r. ⌜ r ≡ allPass (quotes (now (s .entry)) from n) ⌝ }
+{
+    let mut at = from;
+    let mut left = n;
+    while 0 < left {
+        if !quote_passes(quote_at(s, at)) {
+            return false;
+        }
+        at += 32;
+        left -= 1;
+    }
+    true
+}
+
+// ---- repeats
+
+fn same(a: Quote, b: Quote) -> bool
+    ensures { λ r. ⌜ r ≡ sameQuote a b ⌝ }
+{
+    (a.k == b.k) & (a.w == b.w) & (a.weight == b.weight)
+}
+
+// Whether one of the first i records has the same content as record i.
+fn repeated(s: &[u8], from: usize, i: usize) -> bool
+    requires { ⌜ from + 32 * i ≤ length (now s) ⌝ }
+    ensures { λ r. ⌜ r ≡ among (quoteAt (now (s .entry)) (from + 32 * i)) (quotes (now (s .entry)) from i) ⌝ }
+{
+    let q = quote_at(s, from + 32 * i);
+    let mut at = from;
+    let mut left = i;
+    while 0 < left {
+        if same(quote_at(s, at), q) {
+            return true;
+        }
+        at += 32;
+        left -= 1;
+    }
+    false
+}
+
+// Puts what is kept of n records into three columns, and answers how many that is. Room beyond is untouched.
+fn keep(s: &[u8], from: usize, n: usize, k: &mut [f64], w: &mut [f64], weight: &mut [f64]) -> usize
+    requires { ⌜ (n ≤ length (now k)) × (n ≤ length (now w)) × (n ≤ length (now weight)) ⌝ }
+    requires { ⌜ from + 32 * n ≤ length (now s) ⌝ }
+    ensures { λ r. ⌜ r ≡ length (kept (quotes (now (s .entry)) from n)) ⌝ }
+    ensures { λ r. ⌜ now (k .exit) ≡ atFront (map kOf (kept (quotes (now (s .entry)) from n))) (now (k .entry)) ⌝ }
+    ensures { λ r. ⌜ now (w .exit) ≡ atFront (map wOf (kept (quotes (now (s .entry)) from n))) (now (w .entry)) ⌝ }
+    ensures { λ r. ⌜ now (weight .exit) ≡ atFront (map weightOf (kept (quotes (now (s .entry)) from n))) (now (weight .entry)) ⌝ }
+{
+    let mut i = 0;
+    let mut m = 0;
+    while i < n {
+        if !repeated(s, from, i) {
+            let q = quote_at(s, from + 32 * i);
+            k[m] = bits::f64_of(q.k);
+            w[m] = bits::f64_of(q.w);
+            weight[m] = bits::f64_of(q.weight);
+            m += 1;
+        }
+        i += 1;
+    }
+    m
+}
+
+// ---- the whole
+
+fn room_holds(n: usize, a: usize, b: usize, c: usize) -> bool
+    ensures { λ r. ⌜ r ≡ leb n a && leb n b && leb n c ⌝ }
+{
+    (n <= a) & (n <= b) & (n <= c)
+}
+
+// 12, 11, 10 or 0: what refuses n records that stand behind so many settings, with such room for their three columns.
+fn refusal_of(s: &[u8], settings: usize, n: usize, a: usize, b: usize, c: usize) -> u32
+    requires { ⌜ (settings ≤ 1) × (n ≤ 256) × (20 + 88 * settings + 32 * n ≤ length (now s)) ⌝ }
+    ensures { λ r. ⌜ r ≡ refusalOf (now (s .entry)) settings n a b c ⌝ }
+{
+    let room = room_holds(n, a, b, c);
+    if !room {
+        return 12;
+    }
+    let sizes = sizes_hold(n, config_of(s, settings));
+    if !sizes {
+        return 11;
+    }
+    let observations = all_pass(s, 20 + 88 * settings, n);
+    if !observations {
+        return 10;
+    }
+    0
+}
+
+// Puts what is kept of a file's records into three columns. A refusal (43; 12 where a column is short; 11; 10) leaves them untouched.
+pub fn take_in(s: &[u8], k: &mut [f64], w: &mut [f64], weight: &mut [f64]) -> Taken
+    ensures { λ r. ⌜ r ≡ takenOf (now (s .entry)) (length (now (k .entry))) (length (now (w .entry))) (length (now (weight .entry))) ⌝ }
+    ensures { λ r. ⌜ now (k .exit) ≡ written (r .number) (map kOf (keptOf (now (s .entry)))) (now (k .entry)) ⌝ }
+    ensures { λ r. ⌜ now (w .exit) ≡ written (r .number) (map wOf (keptOf (now (s .entry)))) (now (w .entry)) ⌝ }
+    ensures { λ r. ⌜ now (weight .exit) ≡ written (r .number) (map weightOf (keptOf (now (s .entry)))) (now (weight .entry)) ⌝ }
+{
+    let h = house_of(s);
+    let House::File { settings, count } = h else {
+        return Taken {
+            number: 43,
+            settings: 0,
+            read: 0,
+            kept: 0,
+        };
+    };
+    let number = refusal_of(s, settings, count, k.len(), w.len(), weight.len());
+    if number != 0 {
+        return Taken {
+            number,
+            settings,
+            read: count,
+            kept: count,
+        };
+    }
+    let m = keep(s, 20 + 88 * settings, count, k, w, weight);
+    Taken {
+        number: 0,
+        settings,
+        read: count,
+        kept: m,
+    }
+}
