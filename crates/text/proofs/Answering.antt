@@ -1,0 +1,51 @@
+-- Which of its forms an answer has, by the tests that the code makes. Assumes nothing.
+use Prim.Native.Nat.{ℕ}
+use mathlib.Core.Path.{_≡_, ap}
+use mathlib.Core.Bool.{Bool, true, false, _&&_, cond}
+use mathlib.Core.List.{List, [], _++_}
+use lib.Dec.{eqb, leb}
+use lib.ListN.{length}
+use lib.Ieee.{Float}
+use borrow.Author.Tests.{eq-eqb, ne-eqb}
+use Rattle.laws.specs.Choice.{unless}
+use Rattle.calibrate.specs.declared.FitAnswer.{FitAnswer}
+use Rattle.text.specs.Lines.{readLine, searchLine, cappedLine, pointLines, refusedLine, refusedFloats}
+use Rattle.text.specs.Answers.{earlyText, isLate, refusedOf, refusalText, figuresText, acceptedText}
+
+module _ (number read : ℕ) where
+  pub early-bare : number ≡ 43 → earlyText number read ≡ refusedLine number 0 0
+  unfolding earlyText
+  early-bare e = ap (λ (b : Bool). cond b [] (readLine read read) ++ refusedLine number 0 0) (eq-eqb number 43 e)
+
+  pub early-full : (number ≡ 43 → ⊥) → earlyText number read ≡ readLine read read ++ refusedLine number 0 0
+  unfolding earlyText
+  early-full h = ap (λ (b : Bool). cond b [] (readLine read read) ++ refusedLine number 0 0) (ne-eqb number 43 h)
+
+module _ (a : FitAnswer) where
+  pub refused-nine : a .number ≡ 9 → refusedOf a ≡ refusedFloats (a .«rmse_vol») (a .«max_rmse_vol»)
+  unfolding refusedOf
+  refused-nine e = ap (λ (b : Bool). cond b (refusedFloats (a .«rmse_vol») (a .«max_rmse_vol»)) (refusedLine (a .number) (a .observed) (a .required))) (eq-eqb (a .number) 9 e)
+
+  pub refused-other : (a .number ≡ 9 → ⊥) → refusedOf a ≡ refusedLine (a .number) (a .observed) (a .required)
+  unfolding refusedOf
+  refused-other h = ap (λ (b : Bool). cond b (refusedFloats (a .«rmse_vol») (a .«max_rmse_vol»)) (refusedLine (a .number) (a .observed) (a .required))) (ne-eqb (a .number) 9 h)
+
+  pub refusal-early : isLate (a .number) ≡ false → refusalText a ≡ refusedOf a
+  unfolding refusalText
+  refusal-early e = ap (λ (b : Bool). cond b (searchLine (a .counts)) [] ++ refusedOf a) e
+
+  pub refusal-late : isLate (a .number) ≡ true → refusalText a ≡ searchLine (a .counts) ++ refusedOf a
+  unfolding refusalText
+  refusal-late e = ap (λ (b : Bool). cond b (searchLine (a .counts)) [] ++ refusedOf a) e
+
+module _ (read kept : ℕ) (a : FitAnswer) (residuals : List Float) (capped : List ℕ) where
+  abbrev pub full : List ℕ
+  full = readLine read kept ++ (figuresText a ++ (cappedLine capped ++ pointLines residuals))
+
+  pub too-many : (leb (length residuals) 1024 && leb (length capped) 256) ≡ false → acceptedText read kept a residuals capped ≡ []
+  unfolding acceptedText
+  too-many e = ap (λ (b : Bool). unless b [] full) e
+
+  pub accepted-full : (leb (length residuals) 1024 && leb (length capped) 256) ≡ true → acceptedText read kept a residuals capped ≡ full
+  unfolding acceptedText
+  accepted-full e = ap (λ (b : Bool). unless b [] full) e

@@ -1,0 +1,73 @@
+use borrow.Author.Needs.{needs}
+use native.Mathlib.Omega.{arith}
+use Prim.Native.Nat.{ℕ, _+_, _*_, _-_, _≤_, _<_}
+use mathlib.Core.Path.{_≡_, refl, sym, ap, _∙_}
+use mathlib.Core.List.{List}
+use lib.ListN.{length, take}
+use Rattle.text.specs.Place.{Wrote}
+use Rattle.text.specs.Digits.{decimalOf, countsOf, each}
+use Rattle.text.proofs.Writing.{wrote-none, wrote-long, each-more, each-done}
+use Rattle.text.proofs.digits.counts.Statement.{statement}
+use Rattle.text.proofs.digits.counts.Tie as tie
+
+abbrev Inv-loop : tie.InvT-loop
+Inv-loop out₀ at ns p₀ j₀ out p j =
+    (j ≤ length ns) × (p ≤ at + 21 * j) × (length out ≡ length out₀) × Wrote out₀ out at p (countsOf (take j ns))
+
+abbrev μ-loop : tie.MeasureT-loop
+μ-loop out₀ at ns p₀ j₀ out p j = length ns - j
+
+loop-holds : tie.Need-loop-holds Inv-loop μ-loop
+unfolding each
+loop-holds c = (search needs, search needs, refl, wrote-none _ _ (omega arith))
+
+put-requires : tie.Need-put-requires Inv-loop μ-loop
+put-requires c κs = search needs
+
+mul-decimal : tie.Need-mul-decimal Inv-loop μ-loop
+mul-decimal c = search needs
+
+shared-slice-read-decimal : tie.Need-shared-slice-read-decimal Inv-loop μ-loop
+shared-slice-read-decimal c = search needs
+
+decimal-requires : tie.Need-decimal-requires Inv-loop μ-loop
+decimal-requires c κs = search needs
+
+add-j : tie.Need-add-j Inv-loop μ-loop
+add-j c = search needs
+
+loop-less : tie.Need-loop-less Inv-loop μ-loop
+loop-less c = search needs
+
+loop-again : tie.Need-loop-again Inv-loop μ-loop
+loop-again c =
+    let long = wrote-long (c .before .before .before .before .before .before .before .put .ensures) in
+    let longer = wrote-long (c .before .before .decimal .ensures .0) in (
+      search needs,
+      omega (arith, c .before .before .before .before .before .before .before .put .ensures .next, c .before .before .decimal .ensures .1),
+      omega (arith, long, longer),
+      each-more decimalOf _ _ _ _ _ _ _ _ _ _ (c .before .before .before .before .before .before .before .before .before .before .loop .j) 0 (c .before .before .before .before .before .before .before .before .before .loop-test .taken) refl (c .before .before .before .before .before .before .before .before .before .before .loop .inv .3) (c .before .before .before .before .before .before .before .put .ensures) (c .before .before .decimal .ensures .0),
+    )
+
+same-length : tie.Need-same-length Inv-loop μ-loop
+same-length c = search needs
+
+returns : tie.Need-returns Inv-loop μ-loop
+returns c = (each-done decimalOf _ (c .before .loop .j) (c .loop-test .left) (c .before .loop .inv .3), omega arith)
+
+pub counts-spec : {M : Type 1} → statement M
+counts-spec =
+    tie.close
+    (tie.spec
+    Inv-loop
+    μ-loop
+    loop-holds
+    put-requires
+    mul-decimal
+    shared-slice-read-decimal
+    decimal-requires
+    add-j
+    loop-less
+    loop-again
+    same-length
+    returns)

@@ -1,0 +1,59 @@
+use borrow.Author.Needs.{needs}
+use native.Mathlib.Omega.{arith}
+use Prim.Native.Nat.{_+_, _-_, _≤_, _<_}
+use mathlib.Core.Path.{_≡_, refl, sym, ap, _∙_}
+use lib.ListN.{length, take}
+use Rattle.text.specs.Place.{Wrote}
+use Rattle.text.proofs.Writing.{wrote-none, then, wrote-long, text-more, text-done}
+use Rattle.text.proofs.digits.put_text.Statement.{statement}
+use Rattle.text.proofs.digits.put_text.Tie as tie
+
+abbrev Inv-loop : tie.InvT-loop
+Inv-loop out₀ at text p₀ j₀ out p j =
+    (j ≤ length text) × (p ≡ at + j) × (length out ≡ length out₀) × Wrote out₀ out at p (take j text)
+
+abbrev μ-loop : tie.MeasureT-loop
+μ-loop out₀ at text p₀ j₀ out p j = length text - j
+
+loop-holds : tie.Need-loop-holds Inv-loop μ-loop
+loop-holds c = (search needs, search needs, refl, wrote-none _ _ (omega arith))
+
+shared-slice-read-put : tie.Need-shared-slice-read-put Inv-loop μ-loop
+shared-slice-read-put c = search needs
+
+put-requires : tie.Need-put-requires Inv-loop μ-loop
+put-requires c κs = search needs
+
+add-j : tie.Need-add-j Inv-loop μ-loop
+add-j c = search needs
+
+loop-less : tie.Need-loop-less Inv-loop μ-loop
+loop-less c = search needs
+
+loop-again : tie.Need-loop-again Inv-loop μ-loop
+loop-again c =
+    let p = c .before .before in
+    let l = p .before .before .before .before in
+    let long = wrote-long (p .put .ensures) in
+    (search needs, omega (arith, p .put .ensures .next), omega (arith, long), text-more _ _ _ _ _ _ _ (l .loop .j) (p .before .before .before .loop-test .taken) (l .loop .inv .3) (p .put .ensures))
+
+same-length : tie.Need-same-length Inv-loop μ-loop
+same-length c = search needs
+
+returns : tie.Need-returns Inv-loop μ-loop
+returns c = text-done _ (c .before .loop .j) (c .loop-test .left) (c .before .loop .inv .3)
+
+pub put-text-spec : {M : Type 1} → statement M
+put-text-spec =
+    tie.close
+    (tie.spec
+    Inv-loop
+    μ-loop
+    loop-holds
+    shared-slice-read-put
+    put-requires
+    add-j
+    loop-less
+    loop-again
+    same-length
+    returns)

@@ -1,0 +1,38 @@
+-- The answers, line after line. Definitions only.
+use Prim.Native.Nat.{ℕ}
+use mathlib.Core.Bool.{Bool, _&&_, cond}
+use mathlib.Core.List.{List, [], _++_}
+use lib.Dec.{eqb, leb}
+use lib.ListN.{length}
+use lib.Ieee.{Float}
+use Rattle.laws.specs.Choice.{unless}
+use Rattle.calibrate.specs.declared.FitAnswer.{FitAnswer}
+use Rattle.text.specs.Lines.{readLine, fitLine, searchLine, marginsLine, activeLine, cappedLine, pointLines, refusedLine, refusedFloats}
+
+-- refused before repeats are dropped, so that as many are kept as are read; a malformed file, 43, has no `read` line
+unfoldable pub earlyText : ℕ → ℕ → List ℕ
+earlyText number read = cond (eqb number 43) [] (readLine read read) ++ refusedLine number 0 0
+
+-- 9 has its floats, and any other the two counts, which the fit sets to 0 but for 3
+unfoldable pub refusedOf : FitAnswer → List ℕ
+refusedOf a = cond (eqb (a .number) 9) (refusedFloats (a .«rmse_vol») (a .«max_rmse_vol»)) (refusedLine (a .number) (a .observed) (a .required))
+
+abbrev pub isLate : ℕ → Bool
+isLate number = leb 6 number && leb number 9
+
+-- refused by the fit: for 6 to 9 `search` stands before the refusal
+unfoldable pub refusalText : FitAnswer → List ℕ
+refusalText a = cond (isLate (a .number)) (searchLine (a .counts)) [] ++ refusedOf a
+
+unfoldable pub refusedText : ℕ → ℕ → FitAnswer → List ℕ
+refusedText read kept a = readLine read kept ++ refusalText a
+
+-- accepted
+unfoldable pub figuresText : FitAnswer → List ℕ
+figuresText a = fitLine (a .slice) ++ (searchLine (a .counts) ++ (marginsLine a ++ activeLine (a .active)))
+
+-- with at most 256 points, of four numbers each, and as many capped positions
+unfoldable pub acceptedText : ℕ → ℕ → FitAnswer → List Float → List ℕ → List ℕ
+acceptedText read kept a residuals capped =
+    unless (leb (length residuals) 1024 && leb (length capped) 256) []
+    (readLine read kept ++ (figuresText a ++ (cappedLine capped ++ pointLines residuals)))

@@ -1,0 +1,4 @@
+pub mod Digits
+pub mod Place
+pub mod Lines
+pub mod Answers

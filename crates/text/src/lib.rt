@@ -1,0 +1,74 @@
+// The answers of the fit program as text, each for every input: a text is written whole at the front of the room where the room holds it, else nothing is, and how long it is comes back.
+use calibrate::FitAnswer;
+
+mod digits; // digits.rt: bytes and numbers
+mod lines; // lines.rt: one line each
+mod answers; // answers.rt: lines one after the other
+
+ghost use mathlib.Core.Path.{_≡_};
+ghost use mathlib.Core.Bool.{_&&_};
+ghost use lib.Dec.{leb};
+ghost use lib.ListN.{length};
+ghost use Rattle.text.specs.Place.{placed};
+ghost use Rattle.text.specs.Answers.{earlyText, refusedText, acceptedText};
+
+// Hands a text over.
+fn give(text: &[u8], out: &mut [u8]) -> usize
+    ensures { λ r. ⌜ r ≡ length (now (text .entry)) ⌝ }
+    ensures { λ r. ⌜ now (out .exit) ≡ placed (now (text .entry)) (now (out .entry)) ⌝ }
+{
+    if out.len() < text.len() {
+        return text.len();
+    }
+    digits::put_text(out, 0, text)
+}
+
+// The answer to a file that was refused before its repeats were dropped.
+pub fn refused_early(number: u32, read: usize, out: &mut [u8]) -> usize
+    ensures { λ r. ⌜ r ≡ length (earlyText number read) ⌝ }
+    ensures { λ r. ⌜ now (out .exit) ≡ placed (earlyText number read) (now (out .entry)) ⌝ }
+{
+    let mut page = [0u8; 128];
+    let n = answers::early(&mut page, number, read);
+    give(&page[..n], out)
+}
+
+// The answer to a file that the fit refused.
+pub fn refused(read: usize, kept: usize, a: FitAnswer, out: &mut [u8]) -> usize
+    ensures { λ r. ⌜ r ≡ length (refusedText read kept a) ⌝ }
+    ensures { λ r. ⌜ now (out .exit) ≡ placed (refusedText read kept a) (now (out .entry)) ⌝ }
+{
+    let mut page = [0u8; 256];
+    let p = lines::read_line(&mut page, 0, read, kept);
+    let n = answers::refusal(&mut page, p, a);
+    give(&page[..n], out)
+}
+
+// The answer to a file that the fit accepted. More than 256 points, or capped positions, no answer has: then the text is empty.
+pub fn accepted(
+    read: usize,
+    kept: usize,
+    a: FitAnswer,
+    residuals: &[f64],
+    capped: &[usize],
+    out: &mut [u8],
+) -> usize
+    ensures { λ r. ⌜ r ≡ length (acceptedText read kept a (now (residuals .entry)) (now (capped .entry))) ⌝ }
+    ensures { λ r. ⌜ now (out .exit) ≡ placed (acceptedText read kept a (now (residuals .entry)) (now (capped .entry))) (now (out .entry)) ⌝ }
+{
+    let size = few(residuals.len(), capped.len());
+    if !size {
+        return 0;
+    }
+    let mut page = [0u8; 32768];
+    let p = lines::read_line(&mut page, 0, read, kept);
+    let q = answers::figures(&mut page, p, a);
+    let n = answers::points(&mut page, q, capped, residuals);
+    give(&page[..n], out)
+}
+
+fn few(points: usize, capped: usize) -> bool
+    ensures { λ r. ⌜ r ≡ leb points 1024 && leb capped 256 ⌝ }
+{
+    (points <= 1024) & (capped <= 256)
+}
