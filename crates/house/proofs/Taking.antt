@@ -1,16 +1,16 @@
 -- The answers of taking a file in. Assumes nothing.
 use Prim.Native.Nat.{ℕ, _+_, _*_, _≤_}
 use mathlib.Core.Path.{_≡_, refl, sym, ap, _∙_}
-use mathlib.Core.Bool.{Bool, true, _&&_}
+use mathlib.Core.Bool.{Bool, true, false, _&&_}
 use mathlib.Core.List.{List, map}
 use native.Mathlib.Omega.{arith}
 use lib.ListN.{length}
 use lib.Dec.{eqb, leb}
 use lib.Ieee.{Float}
-use borrow.Author.Tests.{leb-true}
+use borrow.Author.Tests.{leb-true, eq-eqb}
 use Rattle.laws.specs.Choice.{unless}
 use Rattle.laws.specs.Room.{atFront, written}
-use Rattle.laws.proofs.Choices.{both, number-no, number-goes, passed-one}
+use Rattle.laws.proofs.Choices.{both, false-true, number-no, number-goes, passed-one}
 use Rattle.laws.proofs.Rooms.{wrote}
 use Rattle.calibrate.specs.Entry.{sizesHold}
 use Rattle.house.specs.declared.House.{House}
@@ -55,3 +55,19 @@ passed s v n a b c h =
     let p = both (leb n a && leb n b) (leb n c) (x .0) in
     let q = both (leb n a) (leb n b) (p .0) in
     ((leb-true n a (q .0), leb-true n b (q .1), leb-true n c (p .1)), y .0, z .0)
+
+-- where nothing refuses, the count is that of the records kept
+pub taken-kept : (s : List ℕ) (a b c : ℕ) (t : Taken) → t ≡ takenOf s a b c → t .number ≡ 0 → t .kept ≡ length (keptOf s)
+unfolding takenOf keptOf
+taken-kept s a b c t e z = by (houseOf s) e
+  where
+    by : (h : House) → t ≡ takenFor s h a b c → t .kept ≡ length (keptFor s h)
+    by Malformed e = absurd (let x : _≡_ {A = ℕ} 0 43 = cc in omega arith)
+    by (File v n) e = go (refusalOf s v n a b c) (eqb (refusalOf s v n a b c) 0) refl e
+      where
+        go : (r : ℕ) (b : Bool) → eqb r 0 ≡ b → t ≡ unless b (taken r v n n) (taken 0 v n (length (kept (recordsAt s v n)))) → t .kept ≡ length (kept (recordsAt s v n))
+        go r true f e = ap (λ (x : Taken). x .kept) e
+        go r false f e = absurd (let x : r ≡ 0 = cc in false-is (sym (eq-eqb r 0 x) ∙ f))
+          where
+            false-is : true ≡ false → ⊥
+            false-is h = false-true (sym h)

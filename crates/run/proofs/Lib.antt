@@ -1,0 +1,3 @@
+pub mod Fronts
+pub mod Fits
+pub mod Saying
