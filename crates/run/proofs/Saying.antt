@@ -19,9 +19,9 @@ use Rattle.text.specs.Place.{placed}
 use Rattle.text.specs.Answers.{earlyText, refusedText, acceptedText}
 use Rattle.run.specs.Answer.{answerText, fitText, answerOf}
 
--- a text, its length, and where it is placed
-pub said : {r : ℕ} {o′ : List ℕ} (o t u : List ℕ) → t ≡ u → (r ≡ length t) × (o′ ≡ placed t o) → (r ≡ length u) × (o′ ≡ placed u o)
-said o t u e h = (h .0 ∙ ap length e, h .1 ∙ ap (λ (x : List ℕ). placed x o) e)
+-- a text: its length, where it is placed, and that it is not long
+pub said : {r : ℕ} {o′ : List ℕ} (o t u : List ℕ) (n : ℕ) → n ≤ 32768 → t ≡ u → (r ≡ length t) × ((o′ ≡ placed t o) × (r ≤ n)) → (r ≡ length u) × ((o′ ≡ placed u o) × (r ≤ 32768))
+said o t u n l e h = (h .0 ∙ ap length e, (h .1 .0 ∙ ap (λ (x : List ℕ). placed x o) e, omega (arith, l, h .1 .1)))
 
 module _ (file : List ℕ) (t : Taken) (ks ws ts : List Float) (tau : Float) (config : FitConfig) (a : FitAnswer) (p : tau ≡ tauOf file (t .settings)) (q : config ≡ configOf file (t .settings)) (e : a ≡ fitOf tau config ks ws ts 1024 256) where
   fit-is : answerText (t .read) (t .kept) config ks ws ts a ≡ fitText file t ks ws ts

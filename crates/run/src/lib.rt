@@ -11,6 +11,7 @@ fn fitted(file: &[u8], t: Taken, k: &[f64], w: &[f64], weight: &[f64], out: &mut
     requires { ⌜ (t .kept ≤ 256) × (t .kept ≤ length (now k)) × (t .kept ≤ length (now w)) × (t .kept ≤ length (now weight)) ⌝ }
     ensures { λ r. ⌜ r ≡ length (fitText (now (file .entry)) t (take (t .kept) (now (k .entry))) (take (t .kept) (now (w .entry))) (take (t .kept) (now (weight .entry)))) ⌝ }
     ensures { λ r. ⌜ now (out .exit) ≡ placed (fitText (now (file .entry)) t (take (t .kept) (now (k .entry))) (take (t .kept) (now (w .entry))) (take (t .kept) (now (weight .entry)))) (now (out .entry)) ⌝ }
+    ensures { λ r. ⌜ r ≤ 32768 ⌝ }
 {
     let m = t.kept;
     let tau = house::tau_of(file, t.settings);
@@ -38,6 +39,7 @@ fn fitted(file: &[u8], t: Taken, k: &[f64], w: &[f64], weight: &[f64], out: &mut
 pub fn run(file: &[u8], out: &mut [u8]) -> usize
     ensures { λ r. ⌜ r ≡ length (answerOf (now (file .entry))) ⌝ }
     ensures { λ r. ⌜ now (out .exit) ≡ placed (answerOf (now (file .entry))) (now (out .entry)) ⌝ }
+    ensures { λ r. ⌜ r ≤ 32768 ⌝ }
 {
     let mut k = [0.0; 256];
     let mut w = [0.0; 256];

@@ -140,12 +140,12 @@ whole {l} {l′} {r} {t} h w =
 pub nothing : (l t : List ℕ) → length l < length t → l ≡ placed t l
 nothing l t h = if-false _ (lt-leb (length t) (length l) h) refl
 
-pub empty : (o t : List ℕ) → t ≡ [] → (0 ≡ length t) × (o ≡ placed t o)
-empty o t e = (sym (ap length e), sym (ap (λ (x : List ℕ). placed x o) e ∙ sym (if-true o (le-leb 0 (length o) (omega arith)) refl)))
+pub empty : (o t : List ℕ) (size : ℕ) → t ≡ [] → (0 ≡ length t) × ((o ≡ placed t o) × (0 ≤ size))
+empty o t size e = (sym (ap length e), (sym (ap (λ (x : List ℕ). placed x o) e ∙ sym (if-true o (le-leb 0 (length o) (omega arith)) refl)), omega arith))
 
 -- a text was written on a page, and the page's front was handed over
-pub handed : {l l′ t : List ℕ} {n : ℕ} {r : ℕ} (o o′ : List ℕ) → Wrote l l′ 0 n t → r ≡ length (take n l′) → o′ ≡ placed (take n l′) o → (r ≡ length t) × (o′ ≡ placed t o)
-handed o o′ w e f = (e ∙ ap length (wrote-front w), f ∙ ap (λ (x : List ℕ). placed x o) (wrote-front w))
+pub handed : {l l′ t : List ℕ} {n : ℕ} {r : ℕ} (o o′ : List ℕ) (size : ℕ) → length l ≤ size → Wrote l l′ 0 n t → r ≡ length (take n l′) → o′ ≡ placed (take n l′) o → (r ≡ length t) × ((o′ ≡ placed t o) × (r ≤ size))
+handed o o′ size h w e f = (e ∙ ap length (wrote-front w), (f ∙ ap (λ (x : List ℕ). placed x o) (wrote-front w), omega (arith, w .room, front-long w)))
 
 -- no second answer: what was there, the place and the text settle the buffer and the next place
 pub wrote-unique : {l l₁ l₂ : List ℕ} {at r₁ r₂ : ℕ} {t : List ℕ} → Wrote l l₁ at r₁ t → Wrote l l₂ at r₂ t → (r₁ ≡ r₂) × (l₁ ≡ l₂)

@@ -7,6 +7,7 @@ mod answers; // answers.rt: lines one after the other
 
 ghost use mathlib.Core.Path.{_≡_};
 ghost use mathlib.Core.Bool.{_&&_};
+ghost use Prim.Native.Nat.{_≤_};
 ghost use lib.Dec.{leb};
 ghost use lib.ListN.{length};
 ghost use Rattle.text.specs.Place.{placed};
@@ -27,6 +28,7 @@ fn give(text: &[u8], out: &mut [u8]) -> usize
 pub fn refused_early(number: u32, read: usize, out: &mut [u8]) -> usize
     ensures { λ r. ⌜ r ≡ length (earlyText number read) ⌝ }
     ensures { λ r. ⌜ now (out .exit) ≡ placed (earlyText number read) (now (out .entry)) ⌝ }
+    ensures { λ r. ⌜ r ≤ 128 ⌝ }
 {
     let mut page = [0u8; 128];
     let n = answers::early(&mut page, number, read);
@@ -37,6 +39,7 @@ pub fn refused_early(number: u32, read: usize, out: &mut [u8]) -> usize
 pub fn refused(read: usize, kept: usize, a: FitAnswer, out: &mut [u8]) -> usize
     ensures { λ r. ⌜ r ≡ length (refusedText read kept a) ⌝ }
     ensures { λ r. ⌜ now (out .exit) ≡ placed (refusedText read kept a) (now (out .entry)) ⌝ }
+    ensures { λ r. ⌜ r ≤ 256 ⌝ }
 {
     let mut page = [0u8; 256];
     let p = lines::read_line(&mut page, 0, read, kept);
@@ -55,6 +58,7 @@ pub fn accepted(
 ) -> usize
     ensures { λ r. ⌜ r ≡ length (acceptedText read kept a (now (residuals .entry)) (now (capped .entry))) ⌝ }
     ensures { λ r. ⌜ now (out .exit) ≡ placed (acceptedText read kept a (now (residuals .entry)) (now (capped .entry))) (now (out .entry)) ⌝ }
+    ensures { λ r. ⌜ r ≤ 32768 ⌝ }
 {
     let size = few(residuals.len(), capped.len());
     if !size {

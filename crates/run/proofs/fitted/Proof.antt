@@ -45,7 +45,7 @@ same-length : tie.Need-same-length
 same-length c = search needs
 
 returns : tie.Need-returns
-returns c = said (c .before .before .before .before .before .before .before .before .before .before .before .before .before .before .before .before .before .before .before .before .args .out .now) _ _ (fit-refused _ (c .before .before .before .before .before .before .before .before .before .before .before .before .before .before .before .before .before .before .before .before .args .t) _ _ _ _ _ _ (c .before .before .before .before .before .before .before .before .before .before .before .before .before .before .tau-of .ensures) (c .before .before .before .before .before .before .before .before .before .before .before .before .before .config-of .ensures) (c .before .before .before .before .before .before .before .fit-slice .ensures .answer) (c .before .before .before .before .if1 .taken)) (c .before .before .refused .ensures)
+returns c = said (c .before .before .before .before .before .before .before .before .before .before .before .before .before .before .before .before .before .before .before .before .args .out .now) _ _ 256 (omega arith) (fit-refused _ (c .before .before .before .before .before .before .before .before .before .before .before .before .before .before .before .before .before .before .before .before .args .t) _ _ _ _ _ _ (c .before .before .before .before .before .before .before .before .before .before .before .before .before .before .tau-of .ensures) (c .before .before .before .before .before .before .before .before .before .before .before .before .before .config-of .ensures) (c .before .before .before .before .before .before .before .fit-slice .ensures .answer) (c .before .before .before .before .if1 .taken)) (c .before .before .refused .ensures)
 
 mul-n : tie.Need-mul-n
 mul-n c = search needs
@@ -100,7 +100,7 @@ returns-2 c =
     let count : a .capped ≡ length (cappedOf (c .before .before .before .before .before .before .before .before .before .before .before .before .before .before .before .config-of .result .«max_weight_ratio») ts) = capped-count _ _ _ _ _ _ _ a (f .answer) (c .before .before .before .before .before .before .if1 .left) in
     let one = front (a .number) _ _ _ (f .left) (c .before .before .before .before .before .before .if1 .left) (m * 4) rows in
     let other = front (a .number) _ _ _ (f .listed) (c .before .before .before .before .before .before .if1 .left) (a .capped) count in
-    said (c .before .before .before .before .before .before .before .before .before .before .before .before .before .before .before .before .before .before .before .before .before .before .args .out .now) _ _
+    said (c .before .before .before .before .before .before .before .before .before .before .before .before .before .before .before .before .before .before .before .before .before .before .args .out .now) _ _ 32768 (omega arith)
     (same-accepted _ _ a one other
     ∙ fit-accepted _ (c .before .before .before .before .before .before .before .before .before .before .before .before .before .before .before .before .before .before .before .before .before .before .args .t) _ _ _ _ _ _ (c .before .before .before .before .before .before .before .before .before .before .before .before .before .before .before .before .tau-of .ensures) (c .before .before .before .before .before .before .before .before .before .before .before .before .before .before .before .config-of .ensures) (f .answer) (c .before .before .before .before .before .before .if1 .left))
     (c .before .before .accepted .ensures)

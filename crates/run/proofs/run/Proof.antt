@@ -32,7 +32,7 @@ same-length : tie.Need-same-length
 same-length c = search needs
 
 returns : tie.Need-returns
-returns c = said (c .before .before .before .before .before .before .before .before .before .before .before .before .before .before .args .out .now) _ _ (answer-early _ (c .before .before .before .before .before .before .before .before .take-in .result) (c .before .before .before .before .before .before .before .before .take-in .ensures .0) (c .before .before .before .before .if1 .taken)) (c .before .before .refused-early .ensures)
+returns c = said (c .before .before .before .before .before .before .before .before .before .before .before .before .before .before .args .out .now) _ _ 128 (omega arith) (answer-early _ (c .before .before .before .before .before .before .before .before .take-in .result) (c .before .before .before .before .before .before .before .before .take-in .ensures .0) (c .before .before .before .before .if1 .taken)) (c .before .before .refused-early .ensures)
 
 slice-aggregate-fitted : tie.Need-slice-aggregate-fitted
 slice-aggregate-fitted c = search needs
@@ -60,7 +60,7 @@ returns-2 c =
     let y = front (c .before .before .before .before .before .before .before .before .before .before .before .take-in .result .number) _ _ _ (c .before .before .before .before .before .before .before .before .before .before .before .take-in .ensures .1 .1 .0) (c .before .before .before .before .before .before .before .if1 .left) (c .before .before .before .before .before .before .before .before .before .before .before .take-in .result .kept) (l ∙ sym (length-map (keptOf (c .before .before .before .before .before .before .before .before .before .before .before .before .before .before .before .before .before .args .file .now)) wOf)) in
     let z = front (c .before .before .before .before .before .before .before .before .before .before .before .take-in .result .number) _ _ _ (c .before .before .before .before .before .before .before .before .before .before .before .take-in .ensures .1 .1 .1) (c .before .before .before .before .before .before .before .if1 .left) (c .before .before .before .before .before .before .before .before .before .before .before .take-in .result .kept) (l ∙ sym (length-map (keptOf (c .before .before .before .before .before .before .before .before .before .before .before .before .before .before .before .before .before .args .file .now)) weightOf)) in
     let t = c .before .before .before .before .before .before .before .before .before .before .before .take-in .result in
-    said (c .before .before .before .before .before .before .before .before .before .before .before .before .before .before .before .before .before .args .out .now) _ _
+    said (c .before .before .before .before .before .before .before .before .before .before .before .before .before .before .before .before .before .args .out .now) _ _ 32768 (omega arith)
     (same-fit _ t x y z
     ∙ answer-fit _ t (c .before .before .before .before .before .before .before .before .before .before .before .take-in .ensures .0) (c .before .before .before .before .before .before .before .if1 .left))
     (c .before .before .fitted .ensures)

@@ -14,7 +14,7 @@ few-requires : tie.Need-few-requires
 few-requires c κs = search needs
 
 returns : tie.Need-returns
-returns c = empty _ _ (too-many _ _ _ (c .before .before .before .before .before .args .residuals .now) (c .before .before .before .before .before .args .capped .now) (sym (c .before .few .ensures) ∙ not-true _ (c .if1 .taken)))
+returns c = empty _ _ 32768 (too-many _ _ _ (c .before .before .before .before .before .args .residuals .now) (c .before .before .before .before .before .args .capped .now) (sym (c .before .few .ensures) ∙ not-true _ (c .if1 .taken)))
 
 slice-aggregate-read-line : tie.Need-slice-aggregate-read-line
 slice-aggregate-read-line c = search needs
@@ -51,7 +51,7 @@ same-length : tie.Need-same-length
 same-length c = search needs
 
 returns-2 : tie.Need-returns-2
-returns-2 c = handed (c .before .before .before .before .before .before .before .before .before .before .before .before .before .before .before .before .before .before .before .args .out .now) _ (wrote-as (accepted-full _ _ _ (c .before .before .before .before .before .before .before .before .before .before .before .before .before .before .before .before .before .before .before .args .residuals .now) (c .before .before .before .before .before .before .before .before .before .before .before .before .before .before .before .before .before .before .before .args .capped .now) (sym (c .before .before .before .before .before .before .before .before .before .before .before .before .before .before .before .few .ensures) ∙ not-false _ (c .before .before .before .before .before .before .before .before .before .before .before .before .before .before .if1 .left))) (then (c .before .before .before .before .before .before .before .before .before .before .before .before .read-line .ensures .0) (then (c .before .before .before .before .before .before .before .before .before .figures .ensures .0) (c .before .before .before .before .before .before .points .ensures)))) (c .before .before .give .ensures .0) (c .before .before .give .ensures .1)
+returns-2 c = handed (c .before .before .before .before .before .before .before .before .before .before .before .before .before .before .before .before .before .before .before .args .out .now) _ 32768 (search needs) (wrote-as (accepted-full _ _ _ (c .before .before .before .before .before .before .before .before .before .before .before .before .before .before .before .before .before .before .before .args .residuals .now) (c .before .before .before .before .before .before .before .before .before .before .before .before .before .before .before .before .before .before .before .args .capped .now) (sym (c .before .before .before .before .before .before .before .before .before .before .before .before .before .before .before .few .ensures) ∙ not-false _ (c .before .before .before .before .before .before .before .before .before .before .before .before .before .before .if1 .left))) (then (c .before .before .before .before .before .before .before .before .before .before .before .before .read-line .ensures .0) (then (c .before .before .before .before .before .before .before .before .before .figures .ensures .0) (c .before .before .before .before .before .before .points .ensures)))) (c .before .before .give .ensures .0) (c .before .before .give .ensures .1)
 
 pub accepted-spec : {M : Type 1} → statement M
 accepted-spec =

@@ -30,7 +30,7 @@ same-length c = search needs
 
 returns : tie.Need-returns
 unfolding refusedText
-returns c = handed (c .before .before .before .before .before .before .before .before .before .before .before .before .args .out .now) _ (then (c .before .before .before .before .before .before .before .before .before .read-line .ensures .0) (c .before .before .before .before .before .before .refusal .ensures)) (c .before .before .give .ensures .0) (c .before .before .give .ensures .1)
+returns c = handed (c .before .before .before .before .before .before .before .before .before .before .before .before .args .out .now) _ 256 (search needs) (then (c .before .before .before .before .before .before .before .before .before .read-line .ensures .0) (c .before .before .before .before .before .before .refusal .ensures)) (c .before .before .give .ensures .0) (c .before .before .give .ensures .1)
 
 pub refused-spec : {M : Type 1} → statement M
 refused-spec =

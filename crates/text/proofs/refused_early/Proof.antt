@@ -22,7 +22,7 @@ same-length : tie.Need-same-length
 same-length c = search needs
 
 returns : tie.Need-returns
-returns c = handed (c .before .before .before .before .before .before .before .before .before .args .out .now) _ (c .before .before .before .before .before .before .early .ensures) (c .before .before .give .ensures .0) (c .before .before .give .ensures .1)
+returns c = handed (c .before .before .before .before .before .before .before .before .before .args .out .now) _ 128 (search needs) (c .before .before .before .before .before .before .early .ensures) (c .before .before .give .ensures .0) (c .before .before .give .ensures .1)
 
 pub refused-early-spec : {M : Type 1} → statement M
 refused-early-spec =
