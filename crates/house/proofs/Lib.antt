@@ -2,3 +2,5 @@ pub mod Files
 pub mod Repeating
 pub mod Columns
 pub mod Taking
+pub mod Once
+pub mod ReadBack

@@ -1,8 +1,14 @@
 -- The bytes of a house file from what it says. Definitions only.
-use Prim.Native.Nat.{ℕ, zero, suc, _/_, _%_}
+use Prim.Native.Nat.{ℕ, zero, suc, _+_, _*_, _/_, _%_}
 use mathlib.Core.List.{List, [], _∷_, _++_}
 use lib.ListN.{length}
+use Rattle.bits.specs.Bytes.{u64At}
+use Rattle.house.specs.declared.House.{House}
+use Rattle.house.specs.declared.House.the-variants.{Malformed, File}
 use Rattle.house.specs.declared.Quote.{Quote}
+use Rattle.house.specs.File.{houseOf}
+use Rattle.house.specs.Repeats.{kept}
+use Rattle.house.specs.Taken.{recordsAt}
 
 -- k bytes, the low one first
 abbrev pub le : ℕ → ℕ → List ℕ
@@ -22,3 +28,16 @@ quotesBytes (q ∷ qs) = wordsBytes (q .number ∷ q .k ∷ q .w ∷ q .weight �
 -- c settings of eleven words, tau's bits, and the records, each section after its count
 unfoldable pub fileBytes : ℕ → List ℕ → ℕ → List Quote → List ℕ
 fileBytes c settings tau qs = le 4 c ++ (wordsBytes settings ++ (le 4 1 ++ (le 8 tau ++ (le 4 (length qs) ++ quotesBytes qs))))
+
+-- n words of a file, the first at a place
+unfoldable pub wordsFrom : List ℕ → ℕ → ℕ → List ℕ
+wordsFrom s at zero = []
+wordsFrom s at (suc n) = u64At s at ∷ wordsFrom s (at + 8) n
+
+-- the file that holds only the first of each record, with the same settings and tau
+abbrev pub onceFor : List ℕ → House → List ℕ
+onceFor s Malformed = s
+onceFor s (File c n) = fileBytes c (wordsFrom s 4 (11 * c)) (u64At s (8 + 88 * c)) (kept (recordsAt s c n))
+
+unfoldable pub onceOf : List ℕ → List ℕ
+onceOf s = onceFor s (houseOf s)
