@@ -4,3 +4,4 @@ pub mod Columns
 pub mod Taking
 pub mod Once
 pub mod ReadBack
+pub mod OnceRead

@@ -1,5 +1,5 @@
 -- What the definition of the fit says of the two lists of an accepted fit. Assumes nothing.
-use Prim.Native.Nat.{ℕ, zero, suc, _+_, _*_}
+use Prim.Native.Nat.{ℕ, zero, suc, _+_, _*_, _≤_}
 use mathlib.Core.Path.{_≡_, refl, _∙_}
 use mathlib.Core.List.{List, [], _∷_, _++_}
 use native.Mathlib.Omega.{arith}
@@ -25,3 +25,8 @@ residuals-long s ks ws = rows-length s ks ws (length ks)
 pub capped-count : (tau : Float) (c : FitConfig) (ks ws ts : List Float) (room slots : ℕ) (a : FitAnswer) → a ≡ fitOf tau c ks ws ts room slots → a .number ≡ 0 → a .capped ≡ length (cappedOf (c .«max_weight_ratio») ts)
 unfolding fitOf refusedWith
 capped-count tau c ks ws ts room slots a e z = absurd (let x : _≡_ {A = ℕ} 0 3 = cc in omega arith)
+
+-- a capped position for each observation, at most
+pub capped-short : (ratio : Float) (ts : List Float) → length (cappedOf ratio ts) ≤ length ts
+unfolding cappedOf
+capped-short ratio ts = omega arith

@@ -1,3 +1,4 @@
 pub mod Fronts
 pub mod Fits
 pub mod Saying
+pub mod RepeatsDoNotShow
