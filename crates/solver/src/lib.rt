@@ -92,14 +92,7 @@ fn row_of(m: &[f64; 36], i: usize) -> [f64; 6]
     p
 }
 
-fn minus_row(
-    m: &mut [f64; 36],
-    values: &[f64; 6],
-    n: usize,
-    col: usize,
-    row: usize,
-    factor: f64,
-)
+fn minus_row(m: &mut [f64; 36], values: &[f64; 6], n: usize, col: usize, row: usize, factor: f64)
     requires { ⌜ (n ≤ 6) × (row < 6) ⌝ }
     ensures { λ r. ⌜ now (m .exit) ≡ minusOf n col (now (values .entry)) row factor (now (m .entry)) ⌝ }
 {
@@ -130,13 +123,7 @@ fn eliminate_row(
     minus_row(m, values, n, col, row, factor);
 }
 
-fn eliminate_below(
-    m: &mut [f64; 36],
-    rhs: &mut [f64; 6],
-    values: &[f64; 6],
-    n: usize,
-    col: usize,
-)
+fn eliminate_below(m: &mut [f64; 36], rhs: &mut [f64; 6], values: &[f64; 6], n: usize, col: usize)
     requires { ⌜ (n ≤ 6) × (col < n) ⌝ }
     ensures { λ r. ⌜ standing (now (m .exit)) (now (rhs .exit)) ≡ belowOf n col (now (values .entry)) (standing (now (m .entry)) (now (rhs .entry))) ⌝ }
 {
