@@ -4,3 +4,9 @@ pub mod Order
 pub mod Floats
 pub mod Rooms
 pub mod Calling
+pub mod Near
+pub mod Rounded
+pub mod Ops
+pub mod Interval
+pub mod Signs
+pub mod Lies

@@ -4,11 +4,11 @@ use Rattle.exponent.specs.Exp.{kernelOf, seriesOf, upperOf}
 use Rattle.exponent.proofs.kernel.Statement.{statement}
 use Rattle.exponent.proofs.kernel.Tie as tie
 
-steps-requires : tie.Need-steps-requires
-steps-requires c κs = search needs
+horner-requires : tie.Need-horner-requires
+horner-requires c κs = search needs
 
-steps-requires-2 : tie.Need-steps-requires-2
-steps-requires-2 c κs = search needs
+horner-requires-2 : tie.Need-horner-requires-2
+horner-requires-2 c κs = search needs
 
 lack-requires : tie.Need-lack-requires
 lack-requires c κs = search needs
@@ -21,4 +21,4 @@ unfolding kernelOf seriesOf upperOf
 returns c = cc
 
 pub kernel-spec : {M : Type 1} → statement M
-kernel-spec = tie.close (tie.spec steps-requires steps-requires-2 lack-requires corrected-requires returns)
+kernel-spec = tie.close (tie.spec horner-requires horner-requires-2 lack-requires corrected-requires returns)

@@ -11,10 +11,10 @@ use lib.Pow.{pow-pos}
 use lib.Ieee.{Float, nan, inf, fin, binary64, up, down, round, sum, add, sub, neg}
 use lib.Ieee.Fits.{down-pos}
 use lib.Ieee.Exact.{HasValue}
-use Rattle.exponent.specs.Steps.{plus, minus}
-use Rattle.exponent.proofs.Near.{Near, near-cancel, near-scale}
-use Rattle.exponent.proofs.Rounded.{Rounds, rounded}
-use Rattle.exponent.proofs.Interval.{lim, Iv, iv-add, iv-sub}
+use Rattle.laws.specs.Floats.{_+f_, _-f_}
+use Rattle.laws.proofs.Near.{Near, near-cancel, near-scale}
+use Rattle.laws.proofs.Rounded.{Rounds, rounded}
+use Rattle.laws.proofs.Interval.{lim, Iv, iv-add, iv-sub}
 
 abbrev pub U : ℕ
 U = 2 ^ 1074
@@ -181,7 +181,7 @@ side-right false a d q p n w U h = omega (arith, mul-le-mul-right q (h .0), mul-
 side-right true a d q p n w U h = omega (arith, mul-le-mul-right q (h .0), mul-le-mul-right q (h .1))
 
 pub lies-add : (x y : Float) (p n w q o v X Y t r : ℕ) → 2 ^ (t - 53) ≤ 2 * r → 2 ^ t + r ≤ 2 ^ 2098 → (X + Y) * U < 2 ^ t → Under x X → Under y Y → Lies x p n w → Lies y q o v
-    → Lies (plus x y) (p + q) (n + o) (w + v + r)
+    → Lies (x +f y) (p + q) (n + o) (w + v + r)
 unfolding add
 lies-add nan y p n w q o v X Y t r D E Z hx hy h k = absurd hx
 lies-add (inf s) y p n w q o v X Y t r D E Z hx hy h k = absurd hx
@@ -199,7 +199,7 @@ under-neg (inf s) X h = h
 under-neg (fin s m e) X h = h
 
 pub lies-sub : (x y : Float) (p n w q o v X Y t r : ℕ) → 2 ^ (t - 53) ≤ 2 * r → 2 ^ t + r ≤ 2 ^ 2098 → (X + Y) * U < 2 ^ t → Under x X → Under y Y → Lies x p n w → Lies y q o v
-    → Lies (minus x y) (p + o) (n + q) (w + v + r)
+    → Lies (x -f y) (p + o) (n + q) (w + v + r)
 unfolding sub
 lies-sub x y p n w q o v X Y t r D E Z hx hy h k = lies-add x (neg y) p n w o q v X Y t r D E Z hx (under-neg y Y hy) h (lies-neg y q o v k)
 
@@ -241,7 +241,7 @@ lies-iv (fin true m e) p n w K E h l k = back (m * up e) (down e) n p w K E U (p
 level : (p n q o : ℕ) → Near ((p + (n + o) + q) * 1048576) ((n + (p + q) + o) * 1048576) 0
 level p n q o = omega arith
 
-pub lost-iv : (x y : Float) (A B : ℕ) → A ≤ 274877906944 → B ≤ 274877906944 → Iv x A A → Iv y B B → Iv (plus (minus x (plus x y)) y) 2 2
+pub lost-iv : (x y : Float) (A B : ℕ) → A ≤ 274877906944 → B ≤ 274877906944 → Iv x A A → Iv y B B → Iv (x -f (x +f y) +f y) 2 2
 lost-iv x y A B hA hB hx hy =
     let P = place x A A hx in
     let Q = place y B B hy in
@@ -252,17 +252,17 @@ lost-iv x y A B hA hB hx hy =
     let r = 2 ^ 1044 in
     let S = A + B + 1 in
     let D = A + S + 1 in
-    let is : Iv (plus x y) S S = iv-add x y A A B B S S (omega arith) (omega arith) (omega arith) (omega arith) hx hy in
-    let id : Iv (minus x (plus x y)) D D = iv-sub x (plus x y) A A S S D D (omega arith) (omega arith) (omega arith) (omega arith) hx is in
+    let is : Iv (x +f y) S S = iv-add x y A A B B S S (omega arith) (omega arith) (omega arith) (omega arith) hx hy in
+    let id : Iv (x -f (x +f y)) D D = iv-sub x (x +f y) A A S S D D (omega arith) (omega arith) (omega arith) (omega arith) hx is in
     let ux : Under x 1048576 = iv-under x A 1048576 (omega arith) hx in
     let uy : Under y 1048576 = iv-under y B 1048576 (omega arith) hy in
-    let us : Under (plus x y) 1048576 = iv-under (plus x y) S 1048576 (omega arith) is in
-    let ud : Under (minus x (plus x y)) 1048576 = iv-under (minus x (plus x y)) D 1048576 (omega arith) id in
-    let s : Lies (plus x y) (p + q) (n + o) (1 + 1 + r) = lies-add x y p n 1 q o 1 1048576 1048576 1097 r (lit≤ tt) (lit≤ tt) (lit< tt) ux uy (P .lies) (Q .lies) in
-    let d : Lies (minus x (plus x y)) (p + (n + o)) (n + (p + q)) (1 + (1 + 1 + r) + r) = lies-sub x (plus x y) p n 1 (p + q) (n + o) (1 + 1 + r) 1048576 1048576 1097 r (lit≤ tt) (lit≤ tt) (lit< tt) ux us (P .lies) s in
-    let z : Lies (plus (minus x (plus x y)) y) (p + (n + o) + q) (n + (p + q) + o) (1 + (1 + 1 + r) + r + 1 + r) =
-    lies-add (minus x (plus x y)) y (p + (n + o)) (n + (p + q)) (1 + (1 + 1 + r) + r) q o 1 1048576 1048576 1097 r (lit≤ tt) (lit≤ tt) (lit< tt) ud uy d (Q .lies) in
-    lies-iv (plus (minus x (plus x y)) y) (p + (n + o) + q) (n + (p + q) + o) (1 + (1 + 1 + r) + r + 1 + r) 0 2 (level p n q o) (lit≤ tt) z
+    let us : Under (x +f y) 1048576 = iv-under (x +f y) S 1048576 (omega arith) is in
+    let ud : Under (x -f (x +f y)) 1048576 = iv-under (x -f (x +f y)) D 1048576 (omega arith) id in
+    let s : Lies (x +f y) (p + q) (n + o) (1 + 1 + r) = lies-add x y p n 1 q o 1 1048576 1048576 1097 r (lit≤ tt) (lit≤ tt) (lit< tt) ux uy (P .lies) (Q .lies) in
+    let d : Lies (x -f (x +f y)) (p + (n + o)) (n + (p + q)) (1 + (1 + 1 + r) + r) = lies-sub x (x +f y) p n 1 (p + q) (n + o) (1 + 1 + r) 1048576 1048576 1097 r (lit≤ tt) (lit≤ tt) (lit< tt) ux us (P .lies) s in
+    let z : Lies (x -f (x +f y) +f y) (p + (n + o) + q) (n + (p + q) + o) (1 + (1 + 1 + r) + r + 1 + r) =
+    lies-add (x -f (x +f y)) y (p + (n + o)) (n + (p + q)) (1 + (1 + 1 + r) + r) q o 1 1048576 1048576 1097 r (lit≤ tt) (lit≤ tt) (lit< tt) ud uy d (Q .lies) in
+    lies-iv (x -f (x +f y) +f y) (p + (n + o) + q) (n + (p + q) + o) (1 + (1 + 1 + r) + r + 1 + r) 0 2 (level p n q o) (lit≤ tt) z
 
 -- ---- (C + x) - C, x rounded to few digits, and what that leaves of x. C is a whole number, 1.5 * 2 ^ 34 at most
 const-near : (x d N U : ℕ) → x * 1 ≡ N * d → Near (x * U + 0 * d) (N * U * d) (0 * d)
@@ -317,28 +317,28 @@ module _ (C x : Float) (N A : ℕ) (V' : HasValue C false N 1) (L : N ≤ 257698
   abbrev r : ℕ
   r = 2 ^ 1055
 
-  first : Lies (plus C x) (N * U + p) (0 + n) (0 + 1 + r)
+  first : Lies (C +f x) (N * U + p) (0 + n) (0 + 1 + r)
   first = lies-add C x (N * U) 0 0 p n 1 25769803776 1 1109 r (lit≤ tt) (lit≤ tt) (lit< tt) (const-under C N V' L) x-under (const-lies C N V') x-lies
 
-  first-under : Under (plus C x) 25769803778
+  first-under : Under (C +f x) 25769803778
   first-under =
-      iv-under (plus C x) (N * 1048576 + A + 1 + 3) 25769803778 (omega arith)
-      (lies-iv (plus C x) (N * U + p) (0 + n) (0 + 1 + r) ((N * 1048576 + A + 1) * U) (N * 1048576 + A + 1 + 3) (lifted N p n A U (lit≤ tt) x-apart) (widened (N * 1048576 + A + 1) (0 + 1 + r) 3 U (lit≤ tt)) first)
+      iv-under (C +f x) (N * 1048576 + A + 1 + 3) 25769803778 (omega arith)
+      (lies-iv (C +f x) (N * U + p) (0 + n) (0 + 1 + r) ((N * 1048576 + A + 1) * U) (N * 1048576 + A + 1 + 3) (lifted N p n A U (lit≤ tt) x-apart) (widened (N * 1048576 + A + 1) (0 + 1 + r) 3 U (lit≤ tt)) first)
 
-  second : Lies (minus (plus C x) C) (N * U + p + 0) (0 + n + N * U) (0 + 1 + r + 0 + 2 * r)
-  second = lies-sub (plus C x) C (N * U + p) (0 + n) (0 + 1 + r) (N * U) 0 0 25769803778 25769803776 1110 (2 * r) (lit≤ tt) (lit≤ tt) (lit< tt) first-under (const-under C N V' L) first (const-lies C N V')
+  second : Lies (C +f x -f C) (N * U + p + 0) (0 + n + N * U) (0 + 1 + r + 0 + 2 * r)
+  second = lies-sub (C +f x) C (N * U + p) (0 + n) (0 + 1 + r) (N * U) 0 0 25769803778 25769803776 1110 (2 * r) (lit≤ tt) (lit≤ tt) (lit< tt) first-under (const-under C N V' L) first (const-lies C N V')
 
-  pub head-iv : Iv (minus (plus C x) C) (A + 8) (A + 8)
+  pub head-iv : Iv (C +f x -f C) (A + 8) (A + 8)
   head-iv =
-      subst (λ (E : ℕ). Iv (minus (plus C x) C) E E) (eight A)
-      (lies-iv (minus (plus C x) C) (N * U + p + 0) (0 + n + N * U) (0 + 1 + r + 0 + 2 * r) ((A + 1) * U) (A + 1 + 7) (lowered N p n A U (lit≤ tt) x-apart) (widened (A + 1) (0 + 1 + r + 0 + 2 * r) 7 U (lit≤ tt)) second)
+      subst (λ (E : ℕ). Iv (C +f x -f C) E E) (eight A)
+      (lies-iv (C +f x -f C) (N * U + p + 0) (0 + n + N * U) (0 + 1 + r + 0 + 2 * r) ((A + 1) * U) (A + 1 + 7) (lowered N p n A U (lit≤ tt) x-apart) (widened (A + 1) (0 + 1 + r + 0 + 2 * r) 7 U (lit≤ tt)) second)
     where
       eight : (A : ℕ) → A + 1 + 7 ≡ A + 8
       eight A = omega arith
 
-  pub rest-iv : Iv (minus x (minus (plus C x) C)) 16 16
+  pub rest-iv : Iv (x -f (C +f x -f C)) 16 16
   rest-iv =
       let w = 0 + 1 + r + 0 + 2 * r in
-      let u2 : Under (minus (plus C x) C) 2 = iv-under (minus (plus C x) C) (A + 8) 2 (omega arith) head-iv in
-      lies-iv (minus x (minus (plus C x) C)) (p + (0 + n + N * U)) (n + (N * U + p + 0)) (1 + w + r) (0 * U) 16 (emptied N p n U) (lit≤ tt)
-      (lies-sub x (minus (plus C x) C) p n 1 (N * U + p + 0) (0 + n + N * U) w 1 2 1109 r (lit≤ tt) (lit≤ tt) (lit< tt) x-under u2 x-lies second)
+      let u2 : Under (C +f x -f C) 2 = iv-under (C +f x -f C) (A + 8) 2 (omega arith) head-iv in
+      lies-iv (x -f (C +f x -f C)) (p + (0 + n + N * U)) (n + (N * U + p + 0)) (1 + w + r) (0 * U) 16 (emptied N p n U) (lit≤ tt)
+      (lies-sub x (C +f x -f C) p n 1 (N * U + p + 0) (0 + n + N * U) w 1 2 1109 r (lit≤ tt) (lit≤ tt) (lit< tt) x-under u2 x-lies second)

@@ -6,19 +6,31 @@ use native.Mathlib.Omega.{arith}
 use mathlib.Core.Bool.{Bool, true, false, not, _&&_, Bool·beq, cond}
 use lib.IntN.{ℤ}
 use lib.Dec.{T, ltb, eqb, eqb→eq, ltb→lt, lt→ltb, not-T}
-use lib.Ieee.{Float, nan, inf, fin, binary64, up, down, unlike, round, sum, add, mul, div}
+use lib.Ieee.{Float, nan, inf, fin, binary64, up, down, unlike, round, sum, add, mul, div, neg, ofInt}
 use lib.Ieee.Fits.{up-pos, down-pos}
 use lib.Ieee.Bits.{cond-no, is-true}
 use lib.Ieee.Exact.{HasValue}
 use lib.Ieee.Order.{transfer}
-use lib.Ieee.Scale.{round-same, grid, overflow}
-use Rattle.exponent.proofs.Rounded.{RoundsRelative, rounded-relative}
-use Rattle.exponent.specs.Steps.{plus, times, over}
+use lib.Ieee.Back.{round-whole}
+use lib.Ieee.Scale.{round-same}
+use Rattle.laws.specs.Floats.{_+f_, _*f_, _/f_, num}
 
+-- a whole number, and an opposite
+pub num-value : (k : ℕ) → k ≤ 2 ^ 53 → HasValue (num k) false k 1
+unfolding ofInt
+num-value k h = round-whole binary64 false k h
+
+pub neg-value : (x : Float) (a c : ℕ) → HasValue x false a c → HasValue (neg x) true a c
+unfolding neg
+neg-value nan a c h = absurd h
+neg-value (inf s) a c h = absurd h
+neg-value (fin s m e) a c h = (ap not (h .0), h .1)
+
+-- ---- products and quotients
 signs : {s s' t t' : Bool} → s ≡ s' → t ≡ t' → (a b : ℕ) → round binary64 (unlike s t) a b ≡ round binary64 (unlike s' t') a b
 signs p q a b = λ i. round binary64 (unlike (p i) (q i)) a b
 
-pub mul-value : (x y : Float) (s t : Bool) (a c b d : ℕ) → 0 < c → 0 < d → HasValue x s a c → HasValue y t b d → times x y ≡ round binary64 (unlike s t) (a * b) (c * d)
+pub mul-value : (x y : Float) (s t : Bool) (a c b d : ℕ) → 0 < c → 0 < d → HasValue x s a c → HasValue y t b d → x *f y ≡ round binary64 (unlike s t) (a * b) (c * d)
 unfolding mul
 mul-value nan y s t a c b d C D h k = absurd h
 mul-value (inf i) y s t a c b d C D h k = absurd h
@@ -41,7 +53,7 @@ cross A B c d a b p q h k =
     let r : a * p * (B * d) ≡ a * d * (B * p) = simp (mul-assoc, mul-comm, mul-left-comm) in
     l ∙ ap (λ (z : ℕ). z * (b * q)) h ∙ ap (λ (z : ℕ). a * p * z) (sym k) ∙ r
 
-pub div-value : (x y : Float) (s t : Bool) (a c b d : ℕ) → 0 < c → 0 < b → HasValue x s a c → HasValue y t b d → over x y ≡ round binary64 (unlike s t) (a * d) (b * c)
+pub div-value : (x y : Float) (s t : Bool) (a c b d : ℕ) → 0 < c → 0 < b → HasValue x s a c → HasValue y t b d → x /f y ≡ round binary64 (unlike s t) (a * d) (b * c)
 unfolding div
 div-value nan y s t a c b d C B h k = absurd h
 div-value (inf i) y s t a c b d C B h k = absurd h
@@ -99,7 +111,7 @@ sum-cross s A B c d a b p q h k =
 smaller : (A B c d a b p q : ℕ) → 0 < c → 0 < d → A * c ≡ a * p → B * d ≡ b * q → b * c ≤ a * d → B * p ≤ A * q
 smaller A B c d a b p q C D h k l = transfer B A q p b a d c D C k h l
 
-pub add-value : (x y : Float) (s : Bool) (a c b d : ℕ) → 0 < c → 0 < d → HasValue x false a c → HasValue y s b d → b * c ≤ a * d → plus x y ≡ round binary64 false (apply s (a * d) (b * c)) (c * d)
+pub add-value : (x y : Float) (s : Bool) (a c b d : ℕ) → 0 < c → 0 < d → HasValue x false a c → HasValue y s b d → b * c ≤ a * d → x +f y ≡ round binary64 false (apply s (a * d) (b * c)) (c * d)
 unfolding add
 add-value nan y s a c b d C D h k l = absurd h
 add-value (inf i) y s a c b d C D h k l = absurd h
@@ -115,28 +127,12 @@ add-value (fin i m e) (fin j n f) s a c b d C D h k l =
     go false = sum-plus (m * up e * down f) (n * up f * down e) (down e * down f)
     go true = sum-minus (m * up e * down f) (n * up f * down e) (down e * down f) (smaller (m * up e) (n * up f) c d a b (down e) (down f) C D (h .1) (k .1) l)
 
--- ---- each operation is its exact result within one part in 2 ^ 53, where that is 2 ^ -1022 at least and does not overflow
-pub mul-relative : (x y : Float) (s t : Bool) (a c b d : ℕ) → 0 < c → 0 < d → HasValue x s a c → HasValue y t b d
-    → 2 ^ 52 * (c * d) ≤ a * b * 2 ^ 1074 → grid binary64 (a * b) (c * d) < overflow binary64 → RoundsRelative (times x y) (unlike s t) (a * b) (c * d)
-mul-relative x y s t a c b d C D h k N O =
-    subst (λ (z : Float). RoundsRelative z (unlike s t) (a * b) (c * d)) (sym (mul-value x y s t a c b d C D h k)) (rounded-relative (unlike s t) (a * b) (c * d) (mul-pos C D) N O)
-
-pub div-relative : (x y : Float) (s t : Bool) (a c b d : ℕ) → 0 < c → 0 < b → HasValue x s a c → HasValue y t b d
-    → 2 ^ 52 * (b * c) ≤ a * d * 2 ^ 1074 → grid binary64 (a * d) (b * c) < overflow binary64 → RoundsRelative (over x y) (unlike s t) (a * d) (b * c)
-div-relative x y s t a c b d C B h k N O =
-    subst (λ (z : Float). RoundsRelative z (unlike s t) (a * d) (b * c)) (sym (div-value x y s t a c b d C B h k)) (rounded-relative (unlike s t) (a * d) (b * c) (mul-pos B C) N O)
-
-pub add-relative : (x y : Float) (s : Bool) (a c b d : ℕ) → 0 < c → 0 < d → HasValue x false a c → HasValue y s b d → b * c ≤ a * d
-    → 2 ^ 52 * (c * d) ≤ apply s (a * d) (b * c) * 2 ^ 1074 → grid binary64 (apply s (a * d) (b * c)) (c * d) < overflow binary64 → RoundsRelative (plus x y) false (apply s (a * d) (b * c)) (c * d)
-add-relative x y s a c b d C D h k l N O =
-    subst (λ (z : Float). RoundsRelative z false (apply s (a * d) (b * c)) (c * d)) (sym (add-value x y s a c b d C D h k l)) (rounded-relative false (apply s (a * d) (b * c)) (c * d) (mul-pos C D) N O)
-
 -- the other way round: the second operand, which has the sign, is larger
 sum-less : (A B C : ℕ) → A < B → sum binary64 false A true B C ≡ round binary64 true (B - A) C
 unfolding sum
 sum-less A B C h = ap (λ (t : Bool). cond t (round binary64 true (B - A) C) (round binary64 false (A - B) C)) (is-true (ltb A B) (lt→ltb A B h))
 
-pub sub-value-less : (x y : Float) (a c b d : ℕ) → 0 < c → 0 < d → HasValue x false a c → HasValue y true b d → a * d < b * c → plus x y ≡ round binary64 true (b * c - a * d) (d * c)
+pub sub-value-less : (x y : Float) (a c b d : ℕ) → 0 < c → 0 < d → HasValue x false a c → HasValue y true b d → a * d < b * c → x +f y ≡ round binary64 true (b * c - a * d) (d * c)
 unfolding add
 sub-value-less nan y a c b d C D h k l = absurd h
 sub-value-less (inf i) y a c b d C D h k l = absurd h

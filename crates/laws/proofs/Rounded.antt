@@ -7,13 +7,13 @@ use mathlib.Core.Bool.{Bool, true, false}
 use lib.Dec.{T, lit≤}
 use lib.Pow.{pow-pos, pow-mono, pow-add}
 use lib.Ieee.{Float, Format, binary64, prec, emax, low, size, units, round}
-use lib.Ieee.Digits.{size-le, size-reaches}
+use lib.Ieee.Digits.{size-le}
 use lib.Ieee.Fits.{round-is}
 use lib.Ieee.Exact.{HasValue, units-val}
 use lib.Ieee.Nearest.{closest}
 use lib.Ieee.Order.{drop, kept}
-use lib.Ieee.Scale.{grid, overflow, normal-of-fraction}
-use Rattle.exponent.proofs.Near.{Near, closest-near, half-step}
+use lib.Ieee.Scale.{grid, overflow}
+use Rattle.laws.proofs.Near.{Near, closest-near, half-step}
 
 -- x has the sign s and is G / 2 ^ 1074 in size, and that is within w / 2 ^ 1074 of a / c
 pub record Rounds (x : Float) (s : Bool) (a c w : ℕ) : Type 0 where
@@ -50,28 +50,3 @@ rounded s a c t w C W O h =
       value = value-at s a c (lt-of-lt-of-le (under (grid binary64 a c) c (a * 2 ^ 1074) (2 ^ t) w C (near .0) h) O);
       near = near;
     }
-
--- ---- the relative form: a number that is 2 ^ -1022 at least moves by one part in 2 ^ 53 at most
-relative-step : (K X c n : ℕ) → Near (K * (c * X) * 2) (n * 2) (c * X) → 4503599627370496 * X * c ≤ n → Near (K * X * c * 9007199254740992) (n * 9007199254740992) n
-relative-step K X c n h l = omega arith
-
-last-digit : (z k : ℕ) → 53 ≤ z → k ≡ z - 53 → 52 + k < z
-last-digit z k h e = omega arith
-
-grid-relative : (a c : ℕ) → 0 < c → 53 ≤ size (a * 2 ^ 1074 / c) → Near (grid binary64 a c * c * 9007199254740992) (a * 2 ^ 1074 * 9007199254740992) (a * 2 ^ 1074)
-grid-relative a c C N =
-    let n = a * 2 ^ 1074 in
-    let k = drop 53 n c in
-    let d : 2 ^ (52 + k) ≤ n / c = size-reaches (n / c) (52 + k) (last-digit (size (n / c)) k N refl) in
-    let l : 4503599627370496 * 2 ^ k * c ≤ n = le-div-iff-mul-le C .0 (subst (λ (z : ℕ). z ≤ n / c) (pow-add 2 52 k) d) in
-    relative-step (closest n (c * 2 ^ k)) (2 ^ k) c n (closest-near n (c * 2 ^ k) (mul-pos C (pow-pos k))) l
-
--- x has the sign s and is G / 2 ^ 1074 in size, and that is within one part in 2 ^ 53 of a / c
-pub record RoundsRelative (x : Float) (s : Bool) (a c : ℕ) : Type 0 where
-  pub G : ℕ
-  pub value : HasValue x s G (2 ^ 1074)
-  pub near : Near (G * c * 9007199254740992) (a * 2 ^ 1074 * 9007199254740992) (a * 2 ^ 1074)
-
--- 2 ^ 52 units of 2 ^ -1074 at least, and the rounded value is below 2 ^ 1024
-pub rounded-relative : (s : Bool) (a c : ℕ) → 0 < c → 2 ^ 52 * c ≤ a * 2 ^ 1074 → grid binary64 a c < overflow binary64 → RoundsRelative (round binary64 s a c) s a c
-rounded-relative s a c C N O = record { G = grid binary64 a c; value = value-at s a c O; near = grid-relative a c C (normal-of-fraction binary64 a c C N) }

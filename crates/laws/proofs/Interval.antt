@@ -3,17 +3,18 @@ use mathlib.Core.Path.{_≡_, refl, sym, ap, _∙_, subst}
 use Prim.Native.Nat.{ℕ, zero, suc, _+_, _-_, _*_, _^_, _≤_, _<_}
 use native.Mathlib.Nat.{le-trans, le-of-eq, le-of-lt, lt-irrefl, mul-pos, mul-comm, mul-le-mul-right, mul-le-mul-left, mul-le-mul, le-of-mul-le-mul-right, lt-of-mul-lt-mul-right}
 use native.Mathlib.Omega.{arith}
-use mathlib.Core.Bool.{Bool, true, false, not, _&&_, cond}
+use mathlib.Core.Bool.{Bool, true, false, not, _&&_, _||_, cond}
 use lib.IntN.{ℤ}
 use lib.Dec.{T, ltb, eqb, eqb→eq, ltb→lt, nltb→le, not-T, lit≤}
 use lib.Pow.{pow-pos}
-use lib.Ieee.{Float, nan, inf, fin, binary64, up, down, unlike, round, sum, add, sub, mul, div, neg}
-use lib.Ieee.Fits.{up-pos, down-pos}
+use lib.Ieee.{Float, nan, inf, fin, binary64, up, down, unlike, round, sum, add, sub, mul, div, neg, lt, eq, le}
+use lib.Ieee.Fits.{up-pos, down-pos, and-l}
 use lib.Ieee.Bits.{cond-no}
 use lib.Ieee.Exact.{HasValue}
-use Rattle.exponent.specs.Steps.{plus, minus, times, over}
-use Rattle.exponent.proofs.Rounded.{Rounds, rounded}
-use Rattle.exponent.proofs.Near.{Near}
+use Rattle.laws.specs.Floats.{_+f_, _-f_, _*f_, _/f_}
+use Rattle.laws.proofs.Rounded.{Rounds, rounded}
+use Rattle.laws.proofs.Near.{Near}
+use Rattle.laws.proofs.Ops.{apply, add-value}
 
 abbrev pub lim : Bool → ℕ → ℕ → ℕ
 lim true A B = A
@@ -101,7 +102,7 @@ spread-left n d q L h = omega (arith, mul-le-mul-right q h)
 spread-right : (n d q L : ℕ) → n * 1048576 ≤ L * d → n * q * 1048576 ≤ L * (q * d)
 spread-right n d q L h = omega (arith, mul-le-mul-right q h)
 
-pub iv-add : (x y : Float) (A B C D E F : ℕ) → A + C + 1 ≤ E → B + D + 1 ≤ F → E ≤ 1099511627776 → F ≤ 1099511627776 → Iv x A B → Iv y C D → Iv (plus x y) E F
+pub iv-add : (x y : Float) (A B C D E F : ℕ) → A + C + 1 ≤ E → B + D + 1 ≤ F → E ≤ 1099511627776 → F ≤ 1099511627776 → Iv x A B → Iv y C D → Iv (x +f y) E F
 unfolding add
 iv-add nan y A B C D E F P Q L M h k = absurd h
 iv-add (inf s) y A B C D E F P Q L M h k = absurd h
@@ -111,7 +112,7 @@ iv-add (fin s m e) (fin t n d) A B C D E F P Q L M h k =
     sum-iv (m * up e * down d) (n * up d * down e) (down e * down d) A B C D E F (mul-pos (down-pos e) (down-pos d)) P Q L M s t
     (spread-left (m * up e) (down e) (down d) (lim s A B) h) (spread-right (n * up d) (down d) (down e) (lim t C D) k)
 
-pub iv-sub : (x y : Float) (A B C D E F : ℕ) → A + D + 1 ≤ E → B + C + 1 ≤ F → E ≤ 1099511627776 → F ≤ 1099511627776 → Iv x A B → Iv y C D → Iv (minus x y) E F
+pub iv-sub : (x y : Float) (A B C D E F : ℕ) → A + D + 1 ≤ E → B + C + 1 ≤ F → E ≤ 1099511627776 → F ≤ 1099511627776 → Iv x A B → Iv y C D → Iv (x -f y) E F
 unfolding sub
 iv-sub x y A B C D E F P Q L M h k = iv-add x (neg y) A B D C E F P Q L M h (iv-neg y C D k)
 
@@ -123,7 +124,7 @@ same false A = refl
 product : (n d q p A B C : ℕ) → n * 1048576 ≤ A * d → q * 1048576 ≤ B * p → A * B ≤ C * 1048576 → n * q * 1048576 ≤ C * (d * p)
 product n d q p A B C h k l = omega (arith, mul-le-mul h k, mul-le-mul-right (d * p) l)
 
-pub iv-mul : (x y : Float) (A B C E : ℕ) → A * B ≤ C * 1048576 → C + 1 ≤ E → E ≤ 1099511627776 → Iv x A A → Iv y B B → Iv (times x y) E E
+pub iv-mul : (x y : Float) (A B C E : ℕ) → A * B ≤ C * 1048576 → C + 1 ≤ E → E ≤ 1099511627776 → Iv x A A → Iv y B B → Iv (x *f y) E E
 unfolding mul
 iv-mul nan y A B C E P Q L h k = absurd h
 iv-mul (inf s) y A B C E P Q L h k = absurd h
@@ -140,7 +141,7 @@ unlike-plus true = refl
 
 -- the second factor is H / 2^20 at most, and has no sign
 pub iv-mul-plus : (x : Float) (n : ℕ) (d : ℤ) (A B H C D E F : ℕ) → A * H ≤ C * 1048576 → B * H ≤ D * 1048576 → C + 1 ≤ E → D + 1 ≤ F → E ≤ 1099511627776 → F ≤ 1099511627776
-    → Iv x A B → n * up d * 1048576 ≤ H * down d → Iv (times x (fin false n d)) E F
+    → Iv x A B → n * up d * 1048576 ≤ H * down d → Iv (x *f fin false n d) E F
 unfolding mul
 iv-mul-plus nan n d A B H C D E F P Q R S L M h k = absurd h
 iv-mul-plus (inf s) n d A B H C D E F P Q R S L M h k = absurd h
@@ -177,7 +178,7 @@ quotient n d q p A B C h k l =
 not-zero : (n u p B : ℕ) → 0 < B → 0 < p → B * p ≤ n * u * 1048576 → n ≡ 0 → ⊥
 not-zero n u p B Z Y h e = omega (arith, mul-pos Z Y, ap (λ (z : ℕ). z * u) e)
 
-pub iv-div : (x y : Float) (A B C E : ℕ) → 0 < B → A * 1048576 ≤ C * B → C + 1 ≤ E → E ≤ 1099511627776 → Iv x A A → Least y B → Iv (over x y) E E
+pub iv-div : (x y : Float) (A B C E : ℕ) → 0 < B → A * 1048576 ≤ C * B → C + 1 ≤ E → E ≤ 1099511627776 → Iv x A A → Least y B → Iv (x /f y) E E
 unfolding div
 iv-div nan y A B C E Z P Q L h k = absurd h
 iv-div (inf s) y A B C E Z P Q L h k = absurd h
@@ -199,3 +200,77 @@ iv-widen nan A B C D P Q h = h
 iv-widen (inf s) A B C D P Q h = h
 iv-widen (fin true m e) A B C D P Q h = le-trans h (mul-le-mul-right (down e) P)
 iv-widen (fin false m e) A B C D P Q h = le-trans h (mul-le-mul-right (down e) Q)
+
+-- ---- what lies between -g and g is no larger than g
+either : (x y : Bool) (P : Type 0) → T (x || y) → (T x → P) → (T y → P) → P
+either true y P t f g = f tt
+either false y P t f g = g t
+
+at-most : (x y : ℕ) (r : Bool) → T (ltb x y || (eqb x y && r)) → x ≤ y
+at-most x y r t = either (ltb x y) (eqb x y && r) (x ≤ y) t (λ h. le-of-lt (ltb→lt x y h)) (λ h. le-of-eq (eqb→eq x y (and-l (eqb x y) r h)))
+
+at-least : (x y : ℕ) (r : Bool) → T (ltb x y || (eqb y x && r)) → x ≤ y
+at-least x y r t = either (ltb x y) (eqb y x && r) (x ≤ y) t (λ h. le-of-lt (ltb→lt x y h)) (λ h. le-of-eq (sym (eqb→eq y x (and-l (eqb y x) r h))))
+
+through : (p q n d A : ℕ) → 0 < d → n * 1048576 ≤ A * d → p * d ≤ n * q → p * 1048576 ≤ A * q
+through p q n d A D e h = le-of-mul-le-mul-right {m = p * 1048576} {n = A * q} {k = d} (omega (arith, mul-le-mul-right 1048576 h, mul-le-mul-right q e)) D
+
+pub iv-between : (x g : Float) (A : ℕ) → Iv g A A → T (le x g) → T (le (neg g) x) → Iv x A A
+unfolding le lt eq neg
+iv-between nan g A v p q = absurd p
+iv-between (inf s) nan A v p q = absurd v
+iv-between (inf s) (inf t) A v p q = absurd v
+iv-between (inf true) (fin t n d) A v p q = absurd q
+iv-between (inf false) (fin t n d) A v p q = absurd p
+iv-between (fin s m e) nan A v p q = absurd v
+iv-between (fin s m e) (inf t) A v p q = absurd v
+iv-between (fin false m e) (fin false n d) A v p q = through (m * up e) (down e) (n * up d) (down d) A (down-pos d) v (at-most (m * up e * down d) (n * up d * down e) _ p)
+iv-between (fin true m e) (fin false n d) A v p q = through (m * up e) (down e) (n * up d) (down d) A (down-pos d) v (at-least (m * up e * down d) (n * up d * down e) _ q)
+iv-between (fin false m e) (fin true n d) A v p q = through (m * up e) (down e) (n * up d) (down d) A (down-pos d) v (le-of-eq (eqb→eq (m * up e * down d) (n * up d * down e) (and-l (eqb (m * up e * down d) (n * up d * down e)) _ p)))
+iv-between (fin true m e) (fin true n d) A v p q = through (m * up e) (down e) (n * up d) (down d) A (down-pos d) v (le-of-eq (sym (eqb→eq (n * up d * down e) (m * up e * down d) (and-l (eqb (n * up d * down e) (m * up e * down d)) _ q))))
+
+-- ---- `Above x B`: x is finite, has no sign and is B / 2^20 at least
+abbrev pub Above : Float → ℕ → Type 0
+Above nan B = ⊥
+Above (inf s) B = ⊥
+Above (fin s m e) B = (s ≡ false) × (B * down e ≤ m * up e * 1048576)
+
+pub above-least : (x : Float) (B : ℕ) → Above x B → Least x B
+above-least nan B h = h
+above-least (inf s) B h = h
+above-least (fin s m e) B h = h .1
+
+above-value : (x : Float) (G U B : ℕ) → 0 < U → HasValue x false G U → B * U ≤ G * 1048576 → Above x B
+above-value nan G U B Z h k = h
+above-value (inf s) G U B Z h k = h
+above-value (fin s m e) G U B Z h k = (h .0, least-value (fin s m e) false G U B Z h k)
+
+-- N + x, for a whole number N and an x of size F at most
+within-size : (s : Bool) (F x c : ℕ) → x * 1048576 ≤ lim s F F * c → x * 1048576 ≤ F * c
+within-size true F x c h = h
+within-size false F x c h = h
+
+sum-sizes : (s : Bool) (N F R x c : ℕ) → F + R + 1 ≤ N * 1048576 → N ≤ 1000 → x * 1048576 ≤ F * c → (x * 1 ≤ N * c) × (apply s (N * c) (x * 1) ≤ 2000 * c) × ((R + 1) * c ≤ apply s (N * c) (x * 1) * 1048576)
+sum-sizes true N F R x c q l h = omega (arith, mul-le-mul-right c q, mul-le-mul-right c l)
+sum-sizes false N F R x c q l h = omega (arith, mul-le-mul-right c q, mul-le-mul-right c l)
+
+sum-fits : (a c U : ℕ) → 0 < c → 0 < U → a ≤ 2000 * c → a * U < 1048576 * U * (1 * c)
+sum-fits a c U C Z h = omega (arith, mul-le-mul-right U h, mul-pos C Z)
+
+sum-least : (a c G w R U : ℕ) → 0 < c → 1048576 * w ≤ U → (R + 1) * c ≤ a * 1048576 → Near (G * (1 * c)) (a * U) (1 * c * w) → R * U ≤ G * 1048576
+sum-least a c G w R U C W h n = le-of-mul-le-mul-right {m = R * U} {n = G * 1048576} {k = c} (omega (arith, mul-le-mul-right U h, mul-le-mul-right c W)) C
+
+pub above-sum : (n x : Float) (N F R : ℕ) → HasValue n false N 1 → N ≤ 1000 → F + R + 1 ≤ N * 1048576 → Iv x F F → Above (n +f x) R
+above-sum n nan N F R v l q h = absurd h
+above-sum n (inf s) N F R v l q h = absurd h
+above-sum n (fin s m e) N F R v l q h =
+    let x = m * up e in
+    let c = down e in
+    let a = apply s (N * c) (x * 1) in
+    let b = sum-sizes s N F R x c q l (within-size s F x c h) in
+    let Q = rounded false a (1 * c) 1094 (2 ^ 1040) (one-pos c (down-pos e)) (lit≤ tt) (lit≤ tt) (sum-fits a c (2 ^ 1074) (down-pos e) (pow-pos 1074) (b .1)) in
+    subst (λ (z : Float). Above z R) (sym (add-value n (fin s m e) s N 1 x c (lit≤ tt) (down-pos e) v (refl, refl) (b .0)))
+    (above-value (round binary64 false a (1 * c)) (Q .G) (2 ^ 1074) R (pow-pos 1074) (Q .value) (sum-least a c (Q .G) (2 ^ 1040) R (2 ^ 1074) (down-pos e) (lit≤ tt) (b .2) (Q .near)))
+  where
+    one-pos : (c : ℕ) → 0 < c → 0 < 1 * c
+    one-pos c h = omega arith

@@ -11,15 +11,13 @@ use lib.Ieee.{Float, nan, inf, fin, binary64, up, down, round, neg, sub, lt, ofB
 use lib.Ieee.Fits.{up-pos, down-pos}
 use lib.Ieee.Exact.{HasValue}
 use lib.Ieee.Nearest.{div-same, div-mono}
-use Rattle.exponent.specs.Steps.{plus, minus, times, whole, half, inv-ln2, ln2-hi, ln2-lo, c746}
+use Rattle.laws.specs.Floats.{_+f_, _-f_, _*f_, num, half}
+use Rattle.exponent.specs.Steps.{inv-ln2, ln2-hi, ln2-lo, c746}
 use Rattle.exponent.specs.Exp.{edge, quotient, turnsOf, restOf}
-use Rattle.exponent.proofs.Near.{Near, near-cancel}
-use Rattle.exponent.proofs.Rounded.{Rounds, rounded}
-use Rattle.exponent.proofs.Ops.{apply, mul-value, add-value, sub-value-less}
-use Rattle.exponent.proofs.Interval.{lim, Iv, iv-round, iv-sub, iv-value}
-use Rattle.exponent.proofs.Chain.{whole-value}
-use Rattle.exponent.proofs.LnBits.{neg-value}
-use Rattle.exponent.proofs.Small.{Tiny}
+use Rattle.laws.proofs.Near.{Near, near-cancel}
+use Rattle.laws.proofs.Rounded.{Rounds, rounded}
+use Rattle.laws.proofs.Ops.{apply, mul-value, add-value, sub-value-less, num-value, neg-value}
+use Rattle.laws.proofs.Interval.{lim, Iv, iv-round, iv-sub, iv-value}
 
 inv-value : HasValue inv-ln2 false 3248660424278399 2251799813685248
 unfolding ofBits
@@ -118,9 +116,6 @@ fewer n h = omega arith
 least-of : (x d : ℕ) → 780473815423307 * d < x * 2251799813685248 → 34659 * d ≤ x * 100000
 least-of x d h = omega arith
 
-tiny-of : (x d : ℕ) → x * 1048576 ≤ 363444 * d → x * 10000 ≤ 3467 * d
-tiny-of x d h = omega arith
-
 low-part : (n : ℕ) → n ≤ 1100 → n * 3691024475790907 * 1048576 ≤ 1 * (1 * 19342813113834066795298816)
 low-part n h = omega arith
 
@@ -172,7 +167,7 @@ wide : 1048576 * w ≤ U
 wide = lit≤ tt
 
 module _ (m : ℕ) (e : ℤ) (L : m * up e ≤ 746 * down e) (E : 780473815423307 * down e < m * up e * 2251799813685248) where
-  product : Rounds (times (fin false m e) inv-ln2) false (m * up e * 3248660424278399) (down e * 2251799813685248) w
+  product : Rounds (fin false m e *f inv-ln2) false (m * up e * 3248660424278399) (down e * 2251799813685248) w
   product =
       subst (λ (z : Float). Rounds z false (m * up e * 3248660424278399) (down e * 2251799813685248) w)
       (sym (mul-value (fin false m e) inv-ln2 false false (m * up e) (down e) 3248660424278399 2251799813685248 (down-pos e) (lit< tt) (refl, refl) inv-value))
@@ -197,7 +192,7 @@ module _ (m : ℕ) (e : ℤ) (L : m * up e ≤ 746 * down e) (E : 78047381542330
   unfolding Gp
   total =
       subst (λ (z : Float). Rounds z false (Gp * 2 + 1 * U) (U * 2) w)
-      (sym (add-value (times (fin false m e) inv-ln2) half false Gp U 1 2 U-pos (lit< tt) (product .value) half-value (product-low (m * up e) (down e) Gp w U (down-pos e) wide (least-of (m * up e) (down e) E) p-low)))
+      (sym (add-value (fin false m e *f inv-ln2) half false Gp U 1 2 U-pos (lit< tt) (product .value) half-value (product-low (m * up e) (down e) Gp w U (down-pos e) wide (least-of (m * up e) (down e) E) p-low)))
       (rounded false (Gp * 2 + 1 * U) (U * 2) 1094 w (lit< tt) (lit≤ tt) (lit≤ tt) (sum-in Gp U U-pos p-most))
 
   Gq : ℕ
@@ -232,46 +227,40 @@ module _ (m : ℕ) (e : ℤ) (L : m * up e ≤ 746 * down e) (E : 78047381542330
   pub n-few : n ≤ 1100
   n-few = few (m * up e) (down e) n (down-pos e) L n-low
 
-  whole-n : HasValue (whole n) false n 1
-  whole-n = whole-value n (le-trans n-few (lit≤ tt))
+  whole-n : HasValue (num n) false n 1
+  whole-n = num-value n (le-trans n-few (lit≤ tt))
 
-  high : Rounds (times (whole n) ln2-hi) false (n * 2977044471) (1 * 4294967296) w
+  high : Rounds (num n *f ln2-hi) false (n * 2977044471) (1 * 4294967296) w
   high =
       subst (λ (z : Float). Rounds z false (n * 2977044471) (1 * 4294967296) w)
-      (sym (mul-value (whole n) ln2-hi false false n 1 2977044471 4294967296 (lit< tt) (lit< tt) whole-n hi-value))
+      (sym (mul-value (num n) ln2-hi false false n 1 2977044471 4294967296 (lit< tt) (lit< tt) whole-n hi-value))
       (rounded false (n * 2977044471) (1 * 4294967296) 1094 w (lit< tt) (lit≤ tt) (lit≤ tt) (product-in n 1 U 2977044471 4294967296 (lit< tt) U-pos (lit< tt) (lit≤ tt) (fewer n n-few)))
 
-  first : Iv (minus (fin false m e) (times (whole n) ln2-hi)) 363441 363441
+  first : Iv (fin false m e -f num n *f ln2-hi) 363441 363441
   unfolding sub
   first = go (ltb (m * up e * U) (high .G * down e)) (ltb→lt (m * up e * U) (high .G * down e)) (nltb→le (m * up e * U) (high .G * down e))
     where
-      y : HasValue (neg (times (whole n) ln2-hi)) true (high .G) U
-      y = neg-value (times (whole n) ln2-hi) (high .G) U (high .value)
+      y : HasValue (neg (num n *f ln2-hi)) true (high .G) U
+      y = neg-value (num n *f ln2-hi) (high .G) U (high .value)
 
-      go : (t : Bool) → (T t → m * up e * U < high .G * down e) → (T (not t) → high .G * down e ≤ m * up e * U) → Iv (plus (fin false m e) (neg (times (whole n) ln2-hi))) 363441 363441
+      go : (t : Bool) → (T t → m * up e * U < high .G * down e) → (T (not t) → high .G * down e ≤ m * up e * U) → Iv (fin false m e +f neg (num n *f ln2-hi)) 363441 363441
       go true f g =
-          subst (λ (z : Float). Iv z 363441 363441) (sym (sub-value-less (fin false m e) (neg (times (whole n) ln2-hi)) (m * up e) (down e) (high .G) U (down-pos e) U-pos (refl, refl) y (f tt)))
+          subst (λ (z : Float). Iv z 363441 363441) (sym (sub-value-less (fin false m e) (neg (num n *f ln2-hi)) (m * up e) (down e) (high .G) U (down-pos e) U-pos (refl, refl) y (f tt)))
           (iv-round true (high .G * down e - m * up e * U) (U * down e) 363440 363441 363441 (mul-pos U-pos (down-pos e))
           (subst (λ (z : ℕ). (high .G * down e - m * up e * U) * 1048576 ≤ 363440 * z) (mul-comm (down e) U)
           (beneath (m * up e) (down e) n (high .G) w U wide n-few n-low (ratio-high n 1 (high .G) w U 2977044471 4294967296 69314719 100000000 (lit< tt) (lit≤ tt) (high .near)))) (lit≤ tt) (lit≤ tt))
       go false f g =
-          subst (λ (z : Float). Iv z 363441 363441) (sym (add-value (fin false m e) (neg (times (whole n) ln2-hi)) true (m * up e) (down e) (high .G) U (down-pos e) U-pos (refl, refl) y (g tt)))
+          subst (λ (z : Float). Iv z 363441 363441) (sym (add-value (fin false m e) (neg (num n *f ln2-hi)) true (m * up e) (down e) (high .G) U (down-pos e) U-pos (refl, refl) y (g tt)))
           (iv-round false (m * up e * U - high .G * down e) (down e * U) 363440 363441 363441 (mul-pos (down-pos e) U-pos)
           (above (m * up e) (down e) n (high .G) w U wide n-few n-high (ratio-low n 1 (high .G) w U 2977044471 4294967296 69314718 100000000 (lit< tt) (lit≤ tt) (high .near))) (lit≤ tt) (lit≤ tt))
 
-  low : Iv (times (whole n) ln2-lo) 2 2
+  low : Iv (num n *f ln2-lo) 2 2
   low =
-      subst (λ (z : Float). Iv z 2 2) (sym (mul-value (whole n) ln2-lo false false n 1 3691024475790907 19342813113834066795298816 (lit< tt) (lit< tt) whole-n lo-value))
+      subst (λ (z : Float). Iv z 2 2) (sym (mul-value (num n) ln2-lo false false n 1 3691024475790907 19342813113834066795298816 (lit< tt) (lit< tt) whole-n lo-value))
       (iv-round false (n * 3691024475790907) (1 * 19342813113834066795298816) 1 2 2 (lit< tt) (low-part n n-few) (lit≤ tt) (lit≤ tt))
 
-  pub rest-iv : Iv (minus (minus (fin false m e) (times (whole n) ln2-hi)) (times (whole n) ln2-lo)) 363444 363444
-  rest-iv = iv-sub (minus (fin false m e) (times (whole n) ln2-hi)) (times (whole n) ln2-lo) 363441 363441 2 2 363444 363444 (lit≤ tt) (lit≤ tt) (lit≤ tt) (lit≤ tt) first low
-
-pub iv-tiny : (v : Float) → Iv v 363444 363444 → Tiny v
-iv-tiny nan h = h
-iv-tiny (inf s) h = h
-iv-tiny (fin true m e) h = tiny-of (m * up e) (down e) h
-iv-tiny (fin false m e) h = tiny-of (m * up e) (down e) h
+  pub rest-iv : Iv (fin false m e -f num n *f ln2-hi -f num n *f ln2-lo) 363444 363444
+  rest-iv = iv-sub (fin false m e -f num n *f ln2-hi) (num n *f ln2-lo) 363441 363441 2 2 363444 363444 (lit≤ tt) (lit≤ tt) (lit≤ tt) (lit≤ tt) first low
 
 -- ---- a float a above `edge` and at most 746
 open-a : (m : ℕ) (e : ℤ) → T (lt edge (fin false m e)) → T (not (lt c746 (fin false m e))) → (m * up e ≤ 746 * down e) × (780473815423307 * down e < m * up e * 2251799813685248)
@@ -297,9 +286,8 @@ module _ (a : Float) (p : T (lt edge a)) (q : T (not (lt c746 a))) where
   unfolding turnsOf
   turns-le = only-fin a p q (λ (z : Float). toUnsigned 64 (quotient z) ≤ 1100) (λ m e s. let o = opened m e s in subst (λ (k : ℕ). k ≤ 1100) (sym (turns-is m e (o .0) (o .1))) (n-few m e (o .0) (o .1)))
 
-  pub rest-tiny : Tiny (restOf a (turnsOf a))
+  pub rest-small : Iv (restOf a (turnsOf a)) 363444 363444
   unfolding turnsOf restOf
-  rest-tiny = only-fin a p q (λ (z : Float). Tiny (minus (minus z (times (whole (toUnsigned 64 (quotient z))) ln2-hi)) (times (whole (toUnsigned 64 (quotient z))) ln2-lo)))
+  rest-small = only-fin a p q (λ (z : Float). Iv (z -f num (toUnsigned 64 (quotient z)) *f ln2-hi -f num (toUnsigned 64 (quotient z)) *f ln2-lo) 363444 363444)
       (λ m e s. let o = opened m e s in
-      subst (λ (k : ℕ). Tiny (minus (minus (fin false m e) (times (whole k) ln2-hi)) (times (whole k) ln2-lo))) (sym (turns-is m e (o .0) (o .1)))
-      (iv-tiny (minus (minus (fin false m e) (times (whole (n m e (o .0) (o .1))) ln2-hi)) (times (whole (n m e (o .0) (o .1))) ln2-lo)) (rest-iv m e (o .0) (o .1))))
+      subst (λ (k : ℕ). Iv (fin false m e -f num k *f ln2-hi -f num k *f ln2-lo) 363444 363444) (sym (turns-is m e (o .0) (o .1))) (rest-iv m e (o .0) (o .1)))
