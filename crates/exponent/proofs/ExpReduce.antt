@@ -1,14 +1,14 @@
--- The reduction of exp: for a from 0.3466 to 746, n is the whole number next to a / ln 2, and what is left of a is at most 0.34659 in size. Assumes nothing.
+-- The reduction of exp: for a from 0.3466 to 746, n is the whole number next to a / ln 2, and what is left of a is at most 0.34661 in size. Assumes nothing.
 use mathlib.Core.Path.{_≡_, refl, sym, ap, _∙_, subst}
-use Prim.Native.Nat.{ℕ, zero, suc, _+_, _-_, _*_, _/_, _%_, _^_, _≤_, _<_, min}
-use native.Mathlib.Nat.{le-trans, le-of-eq, le-of-lt, lt-of-lt-of-le, lt-of-le-of-lt, mul-pos, mul-comm, mul-one, mul-le-mul-right, mul-le-mul-left, mul-le-mul, le-of-mul-le-mul-right, lt-of-mul-lt-mul-right, mul-div-cancel, div-mul-le-self, lt-div-mul-add}
+use Prim.Native.Nat.{ℕ, _+_, _-_, _*_, _/_, _^_, _≤_, _<_, min}
+use native.Mathlib.Nat.{le-trans, le-of-eq, le-of-lt, mul-pos, mul-comm, mul-one, mul-le-mul-right, mul-le-mul-left, le-of-mul-le-mul-right, mul-div-cancel, div-mul-le-self, lt-div-mul-add}
 use native.Mathlib.Omega.{arith}
-use mathlib.Core.Bool.{Bool, true, false, not, cond, true≢false}
-use lib.IntN.{ℤ, pos, negsuc}
+use mathlib.Core.Bool.{Bool, true, false, not, true≢false}
+use lib.IntN.{ℤ, pos}
 use lib.Dec.{T, ltb, ltb→lt, nltb→le, lt→ltb, lit≤, lit<}
 use lib.Pow.{pow-pos}
-use lib.Ieee.{Float, nan, inf, fin, binary64, up, down, round, neg, sub, lt, ofBits, toUnsigned}
-use lib.Ieee.Fits.{up-pos, down-pos}
+use lib.Ieee.{Float, nan, inf, fin, up, down, neg, sub, lt, ofBits, toUnsigned}
+use lib.Ieee.Fits.{down-pos}
 use lib.Ieee.Exact.{HasValue}
 use lib.Ieee.Nearest.{div-same, div-mono}
 use Rattle.laws.specs.Floats.{_+f_, _-f_, _*f_, num, half}
@@ -16,8 +16,8 @@ use Rattle.exponent.specs.Steps.{inv-ln2, ln2-hi, ln2-lo, c746}
 use Rattle.exponent.specs.Exp.{edge, quotient, turnsOf, restOf}
 use Rattle.laws.proofs.Near.{Near, near-cancel}
 use Rattle.laws.proofs.Rounded.{Rounds, rounded}
-use Rattle.laws.proofs.Ops.{apply, mul-value, add-value, sub-value-less, num-value, neg-value}
-use Rattle.laws.proofs.Interval.{lim, Iv, iv-round, iv-sub, iv-value}
+use Rattle.laws.proofs.Ops.{mul-value, add-value, sub-value-less, num-value, neg-value}
+use Rattle.laws.proofs.Interval.{Iv, iv-round, iv-sub}
 
 inv-value : HasValue inv-ln2 false 3248660424278399 2251799813685248
 unfolding ofBits
@@ -205,14 +205,14 @@ module _ (m : ℕ) (e : ℤ) (L : m * up e ≤ 746 * down e) (E : 78047381542330
   q-most : Gq ≤ 1100 * U
   q-most = sum-high Gq Gp w U wide p-most q-near
 
-  pub n : ℕ
+  n : ℕ
   n = Gq / U
 
-  pub turns-is : toUnsigned 64 (quotient (fin false m e)) ≡ n
+  turns-is : toUnsigned 64 (quotient (fin false m e)) ≡ n
   unfolding Gq n
   turns-is = whole-part (quotient (fin false m e)) Gq U U-pos (total .value) q-most
 
-  pub turns-in : T (lt (fin true 1 (pos 0)) (quotient (fin false m e))) × T (lt (quotient (fin false m e)) (fin false 1 (pos 64)))
+  turns-in : T (lt (fin true 1 (pos 0)) (quotient (fin false m e))) × T (lt (quotient (fin false m e)) (fin false 1 (pos 64)))
   unfolding Gq
   turns-in = cast-in (quotient (fin false m e)) Gq U U-pos (total .value) q-most
 
@@ -224,7 +224,7 @@ module _ (m : ℕ) (e : ℤ) (L : m * up e ≤ 746 * down e) (E : 78047381542330
   unfolding n
   n-high = turns-high (m * up e) (down e) Gp Gq n w U U-pos wide (le-of-lt (lt-div-mul-add U-pos)) q-near p-low
 
-  pub n-few : n ≤ 1100
+  n-few : n ≤ 1100
   n-few = few (m * up e) (down e) n (down-pos e) L n-low
 
   whole-n : HasValue (num n) false n 1
@@ -259,7 +259,7 @@ module _ (m : ℕ) (e : ℤ) (L : m * up e ≤ 746 * down e) (E : 78047381542330
       subst (λ (z : Float). Iv z 2 2) (sym (mul-value (num n) ln2-lo false false n 1 3691024475790907 19342813113834066795298816 (lit< tt) (lit< tt) whole-n lo-value))
       (iv-round false (n * 3691024475790907) (1 * 19342813113834066795298816) 1 2 2 (lit< tt) (low-part n n-few) (lit≤ tt) (lit≤ tt))
 
-  pub rest-iv : Iv (fin false m e -f num n *f ln2-hi -f num n *f ln2-lo) 363444 363444
+  rest-iv : Iv (fin false m e -f num n *f ln2-hi -f num n *f ln2-lo) 363444 363444
   rest-iv = iv-sub (fin false m e -f num n *f ln2-hi) (num n *f ln2-lo) 363441 363441 2 2 363444 363444 (lit≤ tt) (lit≤ tt) (lit≤ tt) (lit≤ tt) first low
 
 -- ---- a float a above `edge` and at most 746

@@ -1,13 +1,12 @@
 -- exp near zero is no NaN and not negative: the series stays from 0.38 to 1.6, and a correction that passed its limit is far smaller. Numbers here are in units of 2^-20. Assumes nothing.
-use mathlib.Core.Path.{_≡_, refl, sym, subst}
-use Prim.Native.Nat.{ℕ, _+_, _-_, _*_, _^_, _≤_, _<_}
+use mathlib.Core.Path.{refl, sym, subst}
+use Prim.Native.Nat.{ℕ, _-_, _≤_, _<_}
 use native.Mathlib.Nat.{le-trans}
 use native.Mathlib.Omega.{arith}
-use mathlib.Core.Bool.{Bool, true, false, not, cond}
+use mathlib.Core.Bool.{Bool, true, false, cond}
 use lib.Dec.{T, lit≤, lit<}
 use lib.Ieee.{Float, neg, le, ofBits}
 use lib.Ieee.Exact.{HasValue}
-use Rattle.laws.specs.Loop.{turns, for}
 use Rattle.laws.specs.Floats.{_+f_, _*f_, _/f_, num, one}
 use Rattle.laws.proofs.Loops.{for-keeps, turns-last}
 use Rattle.laws.proofs.Ops.{num-value}

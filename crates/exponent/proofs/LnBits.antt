@@ -1,14 +1,13 @@
 -- What ln takes from the bit pattern of y: the exponent k and the digits' part f, by their bounds. Assumes nothing.
 use mathlib.Core.Path.{_≡_, refl, sym, ap, _∙_, subst}
-use mathlib.Core.Logic.{inl, inr}
 use Prim.Native.Nat.{ℕ, zero, suc, _+_, _-_, _*_, _/_, _%_, _^_, _≤_, _<_}
-use native.Mathlib.Nat.{lt-irrefl, lt-of-not-le, not-le-of-lt, mul-right-comm, mul-le-mul, le-trans, le-of-eq, le-of-lt, lt-of-lt-of-le, lt-of-le-of-lt, mul-pos, mul-comm, mul-assoc, mul-one, mul-le-mul-right, le-of-mul-le-mul-right, lt-of-mul-lt-mul-right, mul-div-cancel, eq-of-mul-eq-mul-right, mul-lt-mul-of-pos-right, le-div-iff-mul-le, div-lt-iff-lt-mul}
+use native.Mathlib.Nat.{lt-irrefl, lt-of-not-le, not-le-of-lt, mul-right-comm, mul-le-mul, le-trans, le-of-eq, lt-of-lt-of-le, lt-of-le-of-lt, mul-pos, mul-assoc, mul-one, le-of-mul-le-mul-right, lt-of-mul-lt-mul-right, mul-div-cancel, eq-of-mul-eq-mul-right, mul-lt-mul-of-pos-right, le-div-iff-mul-le, div-lt-iff-lt-mul}
 use native.Mathlib.Omega.{arith}
-use mathlib.Core.Bool.{Bool, true, false, not, _&&_, cond, true≢false}
-use lib.IntN.{ℤ, pos, negsuc}
+use mathlib.Core.Bool.{Bool, true, false, not, _&&_, true≢false}
+use lib.IntN.{ℤ}
 use lib.Dec.{T, ltb, leb, eqb, leb→le, ltb→lt, nltb→le, lit≤, lit<}
 use lib.Pow.{pow-pos, pow-mono, pow-add}
-use lib.Ieee.{Float, nan, inf, fin, binary64, prec, up, down, unlike, size, round, neg, sub, lt, fits, toBits, ofBits}
+use lib.Ieee.{Float, nan, inf, fin, binary64, up, down, size, round, neg, sub, lt, fits, toBits, ofBits}
 use lib.Ieee.Digits.{size-le, size-lt, size-reaches}
 use lib.Ieee.Fits.{kept-lt, up-pos, down-pos, and-l, and-r}
 use lib.Ieee.Exact.{HasValue, round-exact}
@@ -16,10 +15,10 @@ use lib.Ieee.Back.{round-whole}
 use Rattle.laws.specs.Floats.{_-f_, _*f_, num, half, one}
 use Rattle.exponent.specs.Ln.{digitsOf, root2, least, c2p54}
 use Rattle.laws.proofs.Near.{Near}
-use Rattle.laws.proofs.Rounded.{Rounds, rounded}
-use Rattle.laws.proofs.Ops.{apply, mul-value, add-value, sub-value-less, num-value, neg-value}
-use Rattle.laws.proofs.Interval.{lim, Iv, iv-value, iv-round}
-use Rattle.exponent.proofs.Powers.{val, bits-is}
+use Rattle.laws.proofs.Rounded.{rounded}
+use Rattle.laws.proofs.Ops.{mul-value, add-value, sub-value-less, num-value, neg-value}
+use Rattle.laws.proofs.Interval.{Iv, iv-value, iv-round}
+use Rattle.exponent.proofs.Powers.{bits-is}
 
 -- ---- a difference of whole numbers is exact
 one-less : (E d : ℕ) → E * 1 - d * 1 ≡ E - d
@@ -118,7 +117,7 @@ root-test (fin false m e) q h =
     )
 
 -- ---- the exponent's field
-pub fits-says : (s : Bool) (m : ℕ) (e : ℤ) → T (fits binary64 (fin s m e)) → 0 < m → (down e ≤ 2 ^ 1074) × (m * up e < 2 ^ 1024 * down e)
+fits-says : (s : Bool) (m : ℕ) (e : ℤ) → T (fits binary64 (fin s m e)) → 0 < m → (down e ≤ 2 ^ 1074) × (m * up e < 2 ^ 1024 * down e)
 unfolding fits
 fits-says s zero e t p = absurd (lt-irrefl 0 p)
 fits-says s (suc m) e t p =

@@ -1,21 +1,19 @@
 -- The steps of ln by their bounds: with f of size 0.4148 at most, the sum lies from -746 to 710. Numbers here are in units of 2^-20. Assumes nothing.
-use mathlib.Core.Path.{_≡_, refl, sym, ap, _∙_, subst}
-use Prim.Native.Nat.{ℕ, zero, suc, _+_, _-_, _*_, _^_, _≤_, _<_}
-use native.Mathlib.Nat.{le-trans, le-of-eq, le-of-lt, mul-pos, mul-le-mul, mul-le-mul-right, le-of-mul-le-mul-right}
+use mathlib.Core.Path.{_≡_, refl, subst}
+use Prim.Native.Nat.{ℕ, _+_, _-_, _*_, _^_, _≤_, _<_}
+use native.Mathlib.Nat.{le-trans, mul-le-mul}
 use native.Mathlib.Omega.{arith}
-use mathlib.Core.Bool.{Bool, true, false}
+use mathlib.Core.Bool.{false}
 use lib.IntN.{negsuc}
-use lib.Dec.{T, lit≤, lit<}
-use lib.Pow.{pow-pos}
-use lib.Ieee.{Float, nan, inf, fin, binary64, up, down, round, ofBits, ofInt}
-use lib.Ieee.Fits.{down-pos}
+use lib.Dec.{lit≤, lit<}
+use lib.Ieee.{Float, ofBits}
 use lib.Ieee.Exact.{HasValue}
 use Rattle.laws.specs.Floats.{_+f_, _-f_, _*f_, _/f_, num, +0, two}
 use Rattle.exponent.specs.Steps.{three, ln2-hi, ln2-lo, grid18, grid35, headOf, lostOf}
 use Rattle.exponent.specs.Ln.{tailOf, ratio, fifthOf, cross, firstOf, behind, cubeOf, lowOf, totalOf, sumOf}
 use Rattle.laws.proofs.Loops.{for-keeps}
 use Rattle.laws.proofs.Ops.{num-value}
-use Rattle.laws.proofs.Interval.{lim, Iv, Least, iv-add, iv-sub, iv-mul, iv-mul-plus, iv-div, iv-widen, least-value, above-least, above-sum}
+use Rattle.laws.proofs.Interval.{Iv, Least, iv-add, iv-sub, iv-mul, iv-mul-plus, iv-div, iv-widen, least-value, above-least, above-sum}
 use Rattle.laws.proofs.Lies.{lost-iv, head-iv, rest-iv}
 
 two-iv : Iv two 2097152 2097152

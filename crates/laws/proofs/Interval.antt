@@ -1,7 +1,7 @@
 -- Bounds that go through the operations: `Iv x A B` says that x is finite and lies from -A / 2^20 to B / 2^20. Each operation adds one 2^-20 for its rounding. Assumes nothing.
-use mathlib.Core.Path.{_≡_, refl, sym, ap, _∙_, subst}
-use Prim.Native.Nat.{ℕ, zero, suc, _+_, _-_, _*_, _^_, _≤_, _<_}
-use native.Mathlib.Nat.{le-trans, le-of-eq, le-of-lt, lt-irrefl, mul-pos, mul-comm, mul-le-mul-right, mul-le-mul-left, mul-le-mul, le-of-mul-le-mul-right, lt-of-mul-lt-mul-right}
+use mathlib.Core.Path.{_≡_, refl, sym, ap, subst}
+use Prim.Native.Nat.{ℕ, _+_, _-_, _*_, _^_, _≤_, _<_}
+use native.Mathlib.Nat.{le-trans, le-of-eq, le-of-lt, mul-pos, mul-le-mul-right, mul-le-mul, le-of-mul-le-mul-right}
 use native.Mathlib.Omega.{arith}
 use mathlib.Core.Bool.{Bool, true, false, not, _&&_, _||_, cond}
 use lib.IntN.{ℤ}
@@ -12,7 +12,7 @@ use lib.Ieee.Fits.{up-pos, down-pos, and-l}
 use lib.Ieee.Bits.{cond-no}
 use lib.Ieee.Exact.{HasValue}
 use Rattle.laws.specs.Floats.{_+f_, _-f_, _*f_, _/f_}
-use Rattle.laws.proofs.Rounded.{Rounds, rounded}
+use Rattle.laws.proofs.Rounded.{rounded}
 use Rattle.laws.proofs.Near.{Near}
 use Rattle.laws.proofs.Ops.{apply, add-value}
 

@@ -1,20 +1,19 @@
 -- Sums of either sign: `Lies x p n w` says that x is finite and that x * 2^1074 differs from p - n by w at most. Differences of whole numbers in
 -- place of signs, so that x - (x + y) + y is plainly near 0. Assumes nothing.
-use mathlib.Core.Path.{_≡_, refl, sym, ap, _∙_, subst}
+use mathlib.Core.Path.{_≡_, sym, ap, subst}
 use Prim.Native.Nat.{ℕ, _+_, _-_, _*_, _/_, _%_, _^_, _≤_, _<_}
-use native.Mathlib.Nat.{le-trans, le-of-lt, lt-of-le-of-lt, mul-pos, mul-le-mul-right, mul-le-mul-left, le-of-mul-le-mul-right, mod-lt, div-add-mod'}
+use native.Mathlib.Nat.{le-of-lt, mul-pos, mul-le-mul-right, le-of-mul-le-mul-right, mod-lt, div-add-mod'}
 use native.Mathlib.Omega.{arith}
 use mathlib.Core.Bool.{Bool, true, false, not, cond}
-use lib.IntN.{ℤ}
 use lib.Dec.{T, ltb, ltb→lt, nltb→le, lit≤, lit<}
 use lib.Pow.{pow-pos}
 use lib.Ieee.{Float, nan, inf, fin, binary64, up, down, round, sum, add, sub, neg}
 use lib.Ieee.Fits.{down-pos}
 use lib.Ieee.Exact.{HasValue}
 use Rattle.laws.specs.Floats.{_+f_, _-f_}
-use Rattle.laws.proofs.Near.{Near, near-cancel, near-scale}
-use Rattle.laws.proofs.Rounded.{Rounds, rounded}
-use Rattle.laws.proofs.Interval.{lim, Iv, iv-add, iv-sub}
+use Rattle.laws.proofs.Near.{Near, near-cancel}
+use Rattle.laws.proofs.Rounded.{rounded}
+use Rattle.laws.proofs.Interval.{Iv, iv-add, iv-sub}
 
 abbrev pub U : ℕ
 U = 2 ^ 1074

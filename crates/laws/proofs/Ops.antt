@@ -1,19 +1,17 @@
--- Products, quotients and sums of finite values, by any fractions that the operands equal: what `round` is handed. Assumes nothing.
-use mathlib.Core.Path.{_≡_, refl, sym, ap, _∙_, subst}
-use Prim.Native.Nat.{ℕ, zero, suc, _+_, _-_, _*_, _^_, _≤_, _<_}
-use native.Mathlib.Nat.{le-trans, le-of-eq, lt-irrefl, not-le-of-lt, lt-of-not-le, zero-mul, mul-pos, mul-comm, mul-assoc, mul-left-comm, mul-right-comm, mul-mul-mul-comm, le-of-mul-le-mul-right, mul-le-mul-right, add-mul, mul-sub}
-use native.Mathlib.Omega.{arith}
-use mathlib.Core.Bool.{Bool, true, false, not, _&&_, Bool·beq, cond}
-use lib.IntN.{ℤ}
-use lib.Dec.{T, ltb, eqb, eqb→eq, ltb→lt, lt→ltb, not-T}
-use lib.Ieee.{Float, nan, inf, fin, binary64, up, down, unlike, round, sum, add, mul, div, neg, ofInt}
-use lib.Ieee.Fits.{up-pos, down-pos}
+-- Products and sums of finite values, by any fractions that the operands equal: what `round` is handed. Assumes nothing.
+use mathlib.Core.Path.{_≡_, refl, sym, ap, _∙_}
+use Prim.Native.Nat.{ℕ, _+_, _-_, _*_, _^_, _≤_, _<_}
+use native.Mathlib.Nat.{not-le-of-lt, lt-of-not-le, mul-pos, mul-comm, mul-assoc, mul-left-comm, mul-mul-mul-comm, add-mul, mul-sub}
+use mathlib.Core.Bool.{Bool, true, false, not, cond}
+use lib.Dec.{T, ltb, ltb→lt, lt→ltb, not-T}
+use lib.Ieee.{Float, nan, inf, fin, binary64, up, down, unlike, round, sum, add, mul, neg, ofInt}
+use lib.Ieee.Fits.{down-pos}
 use lib.Ieee.Bits.{cond-no, is-true}
 use lib.Ieee.Exact.{HasValue}
 use lib.Ieee.Order.{transfer}
 use lib.Ieee.Back.{round-whole}
 use lib.Ieee.Scale.{round-same}
-use Rattle.laws.specs.Floats.{_+f_, _*f_, _/f_, num}
+use Rattle.laws.specs.Floats.{_+f_, _*f_, num}
 
 -- a whole number, and an opposite
 pub num-value : (k : ℕ) → k ≤ 2 ^ 53 → HasValue (num k) false k 1
@@ -26,7 +24,7 @@ neg-value nan a c h = absurd h
 neg-value (inf s) a c h = absurd h
 neg-value (fin s m e) a c h = (ap not (h .0), h .1)
 
--- ---- products and quotients
+-- ---- products
 signs : {s s' t t' : Bool} → s ≡ s' → t ≡ t' → (a b : ℕ) → round binary64 (unlike s t) a b ≡ round binary64 (unlike s' t') a b
 signs p q a b = λ i. round binary64 (unlike (p i) (q i)) a b
 
@@ -41,40 +39,12 @@ mul-value (fin i m e) (fin j n f) s t a c b d C D h k =
     ∙ round-same binary64 (unlike s t) (m * up e * (n * up f)) (down e * down f) (a * b) (c * d) (mul-pos (down-pos e) (down-pos f)) (mul-pos C D)
     (mul-mul-mul-comm (m * up e) (n * up f) c d ∙ ap (λ (z : ℕ). z * (n * up f * d)) (h .1) ∙ ap (λ (z : ℕ). a * down e * z) (k .1) ∙ mul-mul-mul-comm a (down e) b (down f))
 
--- n * up f * d ≡ b * down f is above zero, so n is
-nonzero : (n u d b w : ℕ) → n * u * d ≡ b * w → 0 < b → 0 < w → n ≡ 0 → ⊥
-nonzero n u d b w e B W z =
-    let p : n * (u * d) ≡ 0 = ap (λ (i : ℕ). i * (u * d)) z ∙ zero-mul (u * d) in
-    omega (arith, mul-pos B W)
-
-cross : (A B c d a b p q : ℕ) → A * c ≡ a * p → B * d ≡ b * q → A * q * (b * c) ≡ a * d * (B * p)
-cross A B c d a b p q h k =
-    let l : A * q * (b * c) ≡ A * c * (b * q) = simp (mul-assoc, mul-comm, mul-left-comm) in
-    let r : a * p * (B * d) ≡ a * d * (B * p) = simp (mul-assoc, mul-comm, mul-left-comm) in
-    l ∙ ap (λ (z : ℕ). z * (b * q)) h ∙ ap (λ (z : ℕ). a * p * z) (sym k) ∙ r
-
-pub div-value : (x y : Float) (s t : Bool) (a c b d : ℕ) → 0 < c → 0 < b → HasValue x s a c → HasValue y t b d → x /f y ≡ round binary64 (unlike s t) (a * d) (b * c)
-unfolding div
-div-value nan y s t a c b d C B h k = absurd h
-div-value (inf i) y s t a c b d C B h k = absurd h
-div-value (fin i m e) nan s t a c b d C B h k = absurd k
-div-value (fin i m e) (inf j) s t a c b d C B h k = absurd k
-div-value (fin i m e) (fin j n f) s t a c b d C B h k =
-    let N : 0 < n = some n (nonzero n (up f) d b (down f) (k .1) B (down-pos f)) in
-    cond-no (eqb n 0) (cond (eqb m 0) nan (inf (unlike i j))) (round binary64 (unlike i j) (m * up e * down f) (n * up f * down e)) (not-T (eqb n 0) (λ (z : T (eqb n 0)). nonzero n (up f) d b (down f) (k .1) B (down-pos f) (eqb→eq n 0 z)))
-    ∙ signs (h .0) (k .0) (m * up e * down f) (n * up f * down e)
-    ∙ round-same binary64 (unlike s t) (m * up e * down f) (n * up f * down e) (a * d) (b * c) (mul-pos (mul-pos N (up-pos f)) (down-pos e)) (mul-pos B C)
-    (cross (m * up e) (n * up f) c d a b (down e) (down f) (h .1) (k .1))
-  where
-    some : (n : ℕ) → (n ≡ 0 → ⊥) → 0 < n
-    some n h = omega arith
-
 -- ---- sums: a first operand with no sign, and a second of either sign, which is no larger in size where its sign is set
 abbrev pub apply : Bool → ℕ → ℕ → ℕ
 apply false x y = x + y
 apply true x y = x - y
 
-pub spread : (s : Bool) (x y z : ℕ) → apply s x y * z ≡ apply s (x * z) (y * z)
+spread : (s : Bool) (x y z : ℕ) → apply s x y * z ≡ apply s (x * z) (y * z)
 spread false x y z = add-mul x y z
 spread true x y z = mul-comm (x - y) z ∙ mul-sub z x y ∙ (λ i. mul-comm z x i - mul-comm z y i)
 

@@ -1,12 +1,11 @@
 -- How far `round` moves a number: a value below 2 ^ (t - 1074) moves by 2 ^ (t - 54 - 1074) at most, subnormal results included. Assumes nothing.
-use mathlib.Core.Path.{_≡_, refl, sym, ap, _∙_, subst}
-use Prim.Native.Nat.{ℕ, suc, _+_, _-_, _*_, _/_, _%_, _^_, _≤_, _<_, compare}
-use native.Mathlib.Nat.{le-trans, le-of-eq, lt-of-lt-of-le, lt-of-le-of-lt, mul-pos, mul-comm, mul-assoc, mul-right-comm, mul-lt-mul-of-pos-right, lt-of-mul-lt-mul-right, div-lt-iff-lt-mul, le-div-iff-mul-le}
+use mathlib.Core.Path.{sym, subst}
+use Prim.Native.Nat.{ℕ, _+_, _-_, _*_, _/_, _^_, _≤_, _<_}
+use native.Mathlib.Nat.{le-trans, lt-of-lt-of-le, mul-pos, lt-of-mul-lt-mul-right, div-lt-iff-lt-mul}
 use native.Mathlib.Omega.{arith}
-use mathlib.Core.Bool.{Bool, true, false}
-use lib.Dec.{T, lit≤}
-use lib.Pow.{pow-pos, pow-mono, pow-add}
-use lib.Ieee.{Float, Format, binary64, prec, emax, low, size, units, round}
+use mathlib.Core.Bool.{Bool}
+use lib.Pow.{pow-pos, pow-mono}
+use lib.Ieee.{Float, binary64, size, round}
 use lib.Ieee.Digits.{size-le}
 use lib.Ieee.Fits.{round-is}
 use lib.Ieee.Exact.{HasValue, units-val}

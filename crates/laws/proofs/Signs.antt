@@ -3,10 +3,10 @@ use mathlib.Core.Path.{_≡_, refl, sym, ap, _∙_, subst}
 use Prim.Native.Nat.{ℕ, zero, suc, _+_, _*_, _^_, _≤_, _<_}
 use native.Mathlib.Nat.{lt-irrefl, zero-mul, mul-pos, mul-le-mul-right, le-of-mul-le-mul-right}
 use native.Mathlib.Omega.{arith}
-use mathlib.Core.Bool.{Bool, true, false, not, cond}
+use mathlib.Core.Bool.{Bool, true, false, not}
 use lib.Dec.{T, ltb, eqb, eqb→eq, not-T, lit≤}
 use lib.IntN.{ℤ}
-use lib.Ieee.{Float, unlike, nan, inf, fin, Format, binary64, prec, emax, low, up, down, odd, units, round, add, mul, lt, isNan, ofBits}
+use lib.Ieee.{Float, unlike, nan, inf, fin, Format, binary64, prec, emax, low, up, down, odd, units, round, mul, lt, isNan, ofBits}
 use lib.Arith.{le→nltb}
 use lib.Ieee.Fits.{round-is, down-pos}
 use lib.Ieee.Bits.{cond-no}
@@ -35,11 +35,6 @@ signed-not-below nan h = absurd h
 signed-not-below (inf t) h = subst (λ (b : Bool). T (not b)) (sym h) tt
 signed-not-below (fin true m e) h = absurd (subst T h tt)
 signed-not-below (fin false m e) h = le→nltb (m * up e * 1) (0 * down e) (omega arith)
-
-pub value-signed : (x : Float) (s : Bool) (a c : ℕ) → HasValue x s a c → Signed s x
-value-signed nan s a c h = absurd h
-value-signed (inf t) s a c h = absurd h
-value-signed (fin t m e) s a c h = h .0
 
 pub above-signed : (x : Float) (B : ℕ) → Above x B → Signed false x
 above-signed nan B h = h

@@ -34,9 +34,6 @@ returns-5 : tie.Need-returns-5
 unfolding expOf
 returns-5 c = rw (c .before .before .before .before .before .if1 .left, c .before .before .before .before .if2 .left, c .before .before .before .if3 .left, c .before .before .if4 .left, c .before .if5 .taken) (cc)
 
-kernel-requires : tie.Need-kernel-requires
-kernel-requires c κs = search needs
-
 returns-6 : tie.Need-returns-6
 unfolding expOf
 returns-6 c = rw (c .before .before .before .before .before .if1 .left, c .before .before .before .before .if2 .left, c .before .before .before .if3 .left, c .before .before .if4 .left, c .before .if5 .left) (cc)
@@ -52,5 +49,5 @@ exp-spec =
     returns-4
     shrunk-requires
     returns-5
-    kernel-requires
+    (λ c κs. search needs)
     returns-6)

@@ -1,4 +1,4 @@
--- `exponent::fifth` meets its contract. Assumes nothing.
+-- `fifth` meets its contract. Assumes nothing.
 use Rattle.exponent.specs.Ln.{fifthOf}
 use Rattle.exponent.proofs.fifth.Statement.{statement}
 use Rattle.exponent.proofs.fifth.Tie as tie

@@ -1,4 +1,4 @@
--- `exponent::fourth` meets its contract. Assumes nothing.
+-- `fourth` meets its contract. Assumes nothing.
 use Rattle.exponent.specs.Exp.{fourthOf}
 use Rattle.exponent.proofs.fourth.Statement.{statement}
 use Rattle.exponent.proofs.fourth.Tie as tie

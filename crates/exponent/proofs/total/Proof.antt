@@ -1,4 +1,4 @@
--- `exponent::total` meets its contract. Assumes nothing.
+-- `total` meets its contract. Assumes nothing.
 use Rattle.exponent.specs.Ln.{totalOf}
 use Rattle.exponent.proofs.total.Statement.{statement}
 use Rattle.exponent.proofs.total.Tie as tie
