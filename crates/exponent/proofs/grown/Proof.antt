@@ -14,7 +14,7 @@ pow2-requires-2 c κs = omega (arith, c .before .before .before .before .turns .
 
 returns : tie.Need-returns
 unfolding grownOf
-returns c = cc
+returns c = rw (c .pow22 .ensures, c .before .pow2 .ensures, c .before .before .kernel .ensures, c .before .before .before .rest-low .ensures, c .before .before .before .before .rest .ensures, c .before .before .before .before .before .turns .ensures)
 
 pub grown-spec : {M : Type 1} → statement M
 grown-spec =

@@ -6,7 +6,7 @@ use Rattle.exponent.proofs.kernel.Tie as tie
 
 returns : tie.Need-returns
 unfolding kernelOf seriesOf upperOf
-returns c = cc
+returns c = rw (c .corrected .ensures, c .before .lack .ensures, c .before .before .horner2 .ensures, c .before .before .before .horner .ensures)
 
 pub kernel-spec : {M : Type 1} → statement M
 kernel-spec = tie.close (tie.spec (λ c κs. search needs) (λ c κs. search needs) (λ c κs. search needs) (λ c κs. search needs) returns)

@@ -6,7 +6,7 @@ use Rattle.exponent.proofs.lack.Tie as tie
 
 returns : tie.Need-returns
 unfolding lackOf
-returns c = cc
+returns c = rw (c .fourth .ensures)
 
 pub lack-spec : {M : Type 1} → statement M
 lack-spec = tie.close (tie.spec (λ c κs. search needs) returns)

@@ -14,7 +14,7 @@ sub-pow2-3 c = omega (arith, c .before .before .before .before .turns .ensures, 
 
 returns : tie.Need-returns
 unfolding shrunkOf
-returns c = cc
+returns c = rw (c .pow22 .ensures, c .before .pow2 .ensures, c .before .before .kernel .ensures, c .before .before .before .rest-low .ensures, c .before .before .before .before .rest .ensures, c .before .before .before .before .before .turns .ensures)
 
 pub shrunk-spec : {M : Type 1} → statement M
 shrunk-spec =
