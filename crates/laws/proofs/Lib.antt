@@ -2,5 +2,8 @@ pub mod Choices
 pub mod Loops
 pub mod Order
 pub mod Floats
+pub mod Comparing
+pub mod Patterns
+pub mod Values
 pub mod Rooms
 pub mod Calling

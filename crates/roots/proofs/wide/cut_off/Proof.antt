@@ -3,12 +3,12 @@ use mathlib.Core.Path.{_≡_}
 use native.Mathlib.Omega.{arith}
 use native.Mathlib.Nat.{div-mul-le-self}
 use Prim.Native.Nat.{_^_}
-use Rattle.roots.proofs.Limb.{top-back, low-back, off-lt, limb, mid-whole, top-lt, whole}
+use Rattle.roots.proofs.Limbs.{top-back, low-back, off-lt, limb, mid-whole, top-lt, whole}
 use borrow.Author.Needs.{needs}
-use Rattle.roots.proofs.cut_off.Statement.{statement}
-use Rattle.roots.proofs.cut_off.Tie as tie
-use Rattle.roots.proofs.cut_off.Reads as reads
-use Rattle.roots.proofs.cut_off.Lts as lts
+use Rattle.roots.proofs.wide.cut_off.Statement.{statement}
+use Rattle.roots.proofs.wide.cut_off.Tie as tie
+use Rattle.roots.proofs.wide.cut_off.Reads as reads
+use Rattle.roots.proofs.wide.cut_off.Lts as lts
 
 shr-top : tie.Need-shr-top
 shr-top c = search needs

@@ -4,10 +4,10 @@ use Prim.Native.Nat.{_+_, _/_}
 use lib.Pow.{pow-add}
 use Rattle.roots.proofs.Rounding.{held-half, held-quarter, to-lower, to-even, to-upper, to-upper-far, to-infinity}
 use borrow.Author.Needs.{needs}
-use Rattle.roots.proofs.place.Statement.{statement}
-use Rattle.roots.proofs.place.Tie as tie
-use Rattle.roots.proofs.place.Reads as reads
-use Rattle.roots.proofs.place.Lts as lts
+use Rattle.roots.proofs.pattern.place.Statement.{statement}
+use Rattle.roots.proofs.pattern.place.Tie as tie
+use Rattle.roots.proofs.pattern.place.Reads as reads
+use Rattle.roots.proofs.pattern.place.Lts as lts
 
 mul-w : tie.Need-mul-w
 mul-w c = search needs

@@ -1,11 +1,12 @@
 -- `roots::guess` meets its contract: no pattern here is a NaN. Assumes nothing.
 use native.Mathlib.Omega.{arith}
-use Rattle.roots.proofs.Read.{no-nan, below-nan}
+use Rattle.laws.proofs.Floats.{self-same}
+use Rattle.laws.proofs.Patterns.{below-nan}
 use borrow.Author.Needs.{needs}
-use Rattle.roots.proofs.guess.Statement.{statement}
-use Rattle.roots.proofs.guess.Tie as tie
-use Rattle.roots.proofs.guess.Reads as reads
-use Rattle.roots.proofs.guess.Lts as lts
+use Rattle.roots.proofs.whole.guess.Statement.{statement}
+use Rattle.roots.proofs.whole.guess.Tie as tie
+use Rattle.roots.proofs.whole.guess.Reads as reads
+use Rattle.roots.proofs.whole.guess.Lts as lts
 
 add-b : tie.Need-add-b
 add-b c = search needs
@@ -29,7 +30,7 @@ returns : tie.Need-returns
 returns c = search needs
 
 float-to-bits-c : tie.Need-float-to-bits-c
-float-to-bits-c c = no-nan _ (c .if1 .left)
+float-to-bits-c c = self-same _ (c .if1 .left)
 
 returns-2 : tie.Need-returns-2
 returns-2 c = search needs

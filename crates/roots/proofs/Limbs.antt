@@ -4,10 +4,10 @@ use Prim.Native.Nat.{ℕ, zero, suc, _+_, _-_, _*_, _/_, _%_, _^_, _≤_, _<_}
 use native.Mathlib.Nat.{mul-le-mul, mul-le-mul-left, mul-le-mul-right, mod-eq-of-lt, mod-lt, div-mul-le-self, div-add-mod', div-lt-iff-lt-mul, lt-of-lt-of-le}
 use native.Mathlib.Omega.{arith}
 use lib.Pow.{pow-pos, pow-add, pow-mono}
-use Rattle.roots.specs.Root.{sq, RootPair}
-use Rattle.roots.specs.Hypot.{Between}
-use Rattle.roots.proofs.Pattern.{product-lt}
-use Rattle.roots.proofs.Whole.{sq-lt-back}
+use Rattle.laws.proofs.Comparing.{product-lt}
+use Rattle.roots.specs.Root.{sq}
+use Rattle.roots.specs.Inner.{RootPair, Between}
+use Rattle.roots.proofs.Squares.{sq-lt-back}
 
 -- ---- the square
 

@@ -1,13 +1,24 @@
 -- `roots::shift_up` meets its contract. Assumes nothing.
 use mathlib.Core.Path.{_≡_, ap, _∙_, subst}
 use Prim.Native.Nat.{ℕ, _+_, _-_, _*_, _^_, _≤_, _<_}
+use native.Mathlib.Nat.{mul-le-mul-right, lt-of-not-le, le-of-suc-le-suc}
 use native.Mathlib.Omega.{arith}
+use lib.Pow.{pow-add, pow-mono}
 use borrow.Author.Needs.{needs}
-use Rattle.roots.proofs.Pattern.{few-shifts, doubled}
-use Rattle.roots.proofs.shift_up.Statement.{statement}
-use Rattle.roots.proofs.shift_up.Tie as tie
-use Rattle.roots.proofs.shift_up.Reads as reads
-use Rattle.roots.proofs.shift_up.Lts as lts
+use Rattle.roots.proofs.pattern.shift_up.Statement.{statement}
+use Rattle.roots.proofs.pattern.shift_up.Tie as tie
+use Rattle.roots.proofs.pattern.shift_up.Reads as reads
+use Rattle.roots.proofs.pattern.shift_up.Lts as lts
+
+doubled : (t m by : ℕ) → m ≡ t * 2 ^ by → m * 2 ≡ t * 2 ^ (by + 1)
+doubled t m by e =
+    let g : 2 ^ (by + 1) ≡ 2 ^ by * 2 = pow-add 2 by 1 in
+    rw (g, e) (omega arith)
+
+few-shifts : (t m by : ℕ) → m ≡ t * 2 ^ by → 0 < t → m < 2 ^ 53 → by ≤ 52
+few-shifts t m by e p h =
+    let l : 1 * 2 ^ by ≤ t * 2 ^ by = mul-le-mul-right (2 ^ by) p in
+    le-of-suc-le-suc (lt-of-not-le (λ (g : 53 ≤ by). let k : 2 ^ 53 ≤ 2 ^ by = pow-mono g in omega arith))
 
 abbrev Inv-loop : tie.InvT-loop
 Inv-loop t m₀ by₀ m by = (m ≡ t * 2 ^ by) × (0 < m) × (m < 2 ^ 53) × (by ≤ 52)

@@ -9,7 +9,9 @@ use lib.Dec.{T, leb, leb→le, nleb→lt}
 use lib.Pow.{pow-pos, pow-add}
 use lib.Ieee.{size}
 use lib.Ieee.Digits.{size-lt}
-use Rattle.roots.specs.Root.{sq, IsFloorRoot, RootPair, floorRoot, isqrt}
+use Rattle.roots.specs.Root.{sq, floorRoot, isqrt}
+use Rattle.roots.specs.Nearest.{IsFloorRoot}
+use Rattle.roots.specs.Inner.{RootPair}
 
 pub sq-mono : {a b : ℕ} → a ≤ b → sq a ≤ sq b
 sq-mono h = mul-le-mul h h

@@ -1,69 +1,19 @@
--- From a whole root and an exponent to the bit pattern, and from a bit pattern to a magnitude. Assumes nothing.
+-- Bit patterns of binary64 with the sign clear: the fields and the value that they stand for, the pattern of so many units (2 ^ -1074, the format's smallest value), and the
+-- significand and exponent of a pattern. Assumes nothing.
 use mathlib.Core.Path.{_≡_, refl, sym, ap, _∙_, subst}
 use mathlib.Core.Bool.{Bool, true, false, not, cond}
 use mathlib.Core.Logic.{_⊎_, inl, inr}
-use Prim.Native.Nat.{ℕ, zero, suc, _+_, _-_, _*_, _/_, _%_, _^_, _≤_, _<_, compare, Ordering, Ordering·lt, Ordering·eq, Ordering·gt}
-use native.Mathlib.Nat.{mul-le-mul, mul-le-mul-right, mul-le-mul-left, mod-eq-of-lt, mul-div-cancel, lt-of-not-le, not-le-of-lt, lt-of-lt-of-le, lt-of-le-of-lt, eq-or-lt-of-le, mul-comm, mul-lt-mul-of-pos-right, mul-pos, le-of-suc-le-suc}
+use Prim.Native.Nat.{ℕ, zero, suc, _+_, _-_, _*_, _/_, _%_, _^_, _≤_, _<_}
+use native.Mathlib.Nat.{mul-le-mul-left, mod-eq-of-lt, lt-of-lt-of-le, lt-of-le-of-lt, eq-or-lt-of-le, mul-lt-mul-of-pos-right}
 use native.Mathlib.Omega.{arith}
 use borrow.Author.Tests.{lt-ltb, le-ltb, lt-leb, ne-eqb}
-use lib.IntN.{ℤ, pos, negsuc}
-use lib.Dec.{T, lit<, lit≤, leb, ltb, eqb, isLe, isEq, leb→le, nleb→lt, eqb→eq, eqb-refl}
-use lib.Arith.{digits-div, digits-mod, lt-of-le-ne}
-use lib.Pow.{pow-pos, pow-add, pow-mono}
+use lib.Dec.{T, lit<, lit≤, leb, ltb, eqb}
+use lib.Arith.{digits-div, digits-mod}
+use lib.Pow.{pow-pos, pow-mono}
 use lib.Count.{trailingZeros, under}
-use lib.Ieee.{Float, nan, inf, fin, binary64, low, up, down, minus, size, nearest, odd, units, ofFields, ofBits}
-use lib.Ieee.Digits.{size-lt, size-le}
-use Rattle.roots.specs.Root.{sq, IsFloorRoot, RootPair, isqrt, rootUnits}
-use Rattle.roots.proofs.Whole.{isqrt-of, root-span, pair-floor}
-
--- ---- what `compare` says
-
--- `compare` by its answer
-abbrev Says : Ordering → ℕ → ℕ → Type 0
-Says Ordering·lt a b = a < b
-Says Ordering·eq a b = a ≡ b
-Says Ordering·gt a b = b < a
-
-says : (a b : ℕ) → Says (compare a b) a b
-says a b = go (compare a b) (leb→le a b) (nleb→lt a b) (eqb→eq a b) (λ (e : a ≡ b). subst (λ (x : ℕ). T (eqb a x)) e (eqb-refl a))
-  where
-    go : (o : Ordering) → (T (isLe o) → a ≤ b) → (T (not (isLe o)) → b < a) → (T (isEq o) → a ≡ b) → (a ≡ b → T (isEq o)) → Says o a b
-    go Ordering·lt h k e n = lt-of-le-ne (h tt) n
-    go Ordering·eq h k e n = e tt
-    go Ordering·gt h k e n = k tt
-
-pub is-lt : (a b : ℕ) → compare a b ≡ Ordering·lt → a < b
-is-lt a b c = subst (λ (o : Ordering). Says o a b) c (says a b)
-
-pub is-eq : (a b : ℕ) → compare a b ≡ Ordering·eq → a ≡ b
-is-eq a b c = subst (λ (o : Ordering). Says o a b) c (says a b)
-
-pub is-gt : (a b : ℕ) → compare a b ≡ Ordering·gt → b < a
-is-gt a b c = subst (λ (o : Ordering). Says o a b) c (says a b)
-
-pub cmp-lt : (a b : ℕ) → a < b → compare a b ≡ Ordering·lt
-cmp-lt a b h = go (compare a b) (nleb→lt a b) (eqb→eq a b)
-  where
-    go : (o : Ordering) → (T (not (isLe o)) → b < a) → (T (isEq o) → a ≡ b) → o ≡ Ordering·lt
-    go Ordering·lt k e = refl
-    go Ordering·eq k e = let z : a ≡ b = e tt in absurd (omega arith)
-    go Ordering·gt k e = let z : b < a = k tt in absurd (omega arith)
-
-pub cmp-eq : (a b : ℕ) → a ≡ b → compare a b ≡ Ordering·eq
-cmp-eq a b h = go (compare a b) (leb→le a b) (nleb→lt a b) (subst (λ (x : ℕ). T (eqb a x)) h (eqb-refl a))
-  where
-    go : (o : Ordering) → (T (isLe o) → a ≤ b) → (T (not (isLe o)) → b < a) → T (isEq o) → o ≡ Ordering·eq
-    go Ordering·lt k l e = absurd e
-    go Ordering·eq k l e = refl
-    go Ordering·gt k l e = absurd e
-
-pub cmp-gt : (a b : ℕ) → b < a → compare a b ≡ Ordering·gt
-cmp-gt a b h = go (compare a b) (leb→le a b)
-  where
-    go : (o : Ordering) → (T (isLe o) → a ≤ b) → o ≡ Ordering·gt
-    go Ordering·lt k = let z : a ≤ b = k tt in absurd (omega arith)
-    go Ordering·eq k = let z : a ≤ b = k tt in absurd (omega arith)
-    go Ordering·gt k = refl
+use lib.Ieee.{inf, fin, binary64, minus, odd, units, ofFields, ofBits, nanBits}
+use Rattle.laws.proofs.Floats.{not-nan-of}
+use Rattle.laws.proofs.Comparing.{lt-or-le}
 
 -- ---- a pattern of two fields with the sign clear
 
@@ -160,32 +110,92 @@ of-units-low q h =
     ∙ sym (odd-more 53 false q 0 1074 (omega arith))
     ∙ sym (units-odd q 0 (below-top q 0 (omega arith) (lit≤ tt)))
 
--- ---- `rootUnits` by what decides it
+-- the format holds w * 2 ^ k units: w has all its digits, or none is dropped
+abbrev pub Held : ℕ → ℕ → Type 0
+Held w k = (2 ^ 52 ≤ w) ⊎ (k ≡ 0)
 
-pub size-gt : (n j : ℕ) → 2 ^ j ≤ n → j < size n
-size-gt n j h = lt-of-not-le (λ (g : size n ≤ j). not-le-of-lt (lt-of-lt-of-le (size-lt n) (pow-mono g)) h)
+pub of-held : (w k : ℕ) → Held w k → w ≤ 2 ^ 53 → k ≤ 2045 → ofBits binary64 (k * 2 ^ 52 + w) ≡ units binary64 false w k
+of-held w k (inl l) h j = of-units w k l h j
+of-held w k (inr z) h j = rw z (elim (lt-or-le w (2 ^ 52)) [
+  | inl l ↦ ap (λ (x : ℕ). ofBits binary64 x) (let e : 0 * 2 ^ 52 + w ≡ w = omega arith in e) ∙ of-units-low w l
+  | inr g ↦ of-units w 0 g h (omega arith)
+])
 
--- how many digits are dropped, of an n with 2 (52 + k) or 2 (52 + k) + 1 digits after its first
-pub dropped : (n k : ℕ) → 2 ^ (104 + k * 2) ≤ n → n < 2 ^ (106 + k * 2) → suc (size n) / 2 - 53 ≡ k
-dropped n k l h = omega (arith, size-gt n (104 + k * 2) l, size-le n (106 + k * 2) h)
+pub inf-pattern : ofBits binary64 (2047 * 2 ^ 52) ≡ inf false
+unfolding ofBits
+inf-pattern = refl
 
-pub by-order : (n k q : ℕ) (o : Ordering) → suc (size n) / 2 - 53 ≡ k → IsFloorRoot (n / sq (2 ^ k)) q → compare (4 * n) (sq ((2 * q + 1) * 2 ^ k)) ≡ o
-    → rootUnits n ≡ units binary64 false (nearest q o) k
-unfolding rootUnits
-by-order n k q o e Q c = rw (e, isqrt-of Q, c)
+-- a pattern up to infinity's is no NaN's
+pub below-nan : (b : ℕ) → b ≤ 2047 * 2 ^ 52 → T (not (nanBits binary64 b))
+below-nan b h =
+    let m : b % 2 ^ 63 ≡ b = mod-eq-of-lt (omega arith) in
+    not-nan-of b (ap (λ (x : ℕ). ltb (2047 * 2 ^ 52) x) m ∙ le-ltb (2047 * 2 ^ 52) b (omega arith))
 
--- ---- a number shifted up
+-- ---- the parts of a pattern
 
-pub doubled : (t m by : ℕ) → m ≡ t * 2 ^ by → m * 2 ≡ t * 2 ^ (by + 1)
-doubled t m by e =
-    let g : 2 ^ (by + 1) ≡ 2 ^ by * 2 = pow-add 2 by 1 in
-    rw (g, e) (omega arith)
+-- a bit pattern with the sign clear: its significand, its exponent from the smallest value's, and its amount of smallest values
+abbrev pub mantOf : ℕ → ℕ
+mantOf b = cond (ltb b (2 ^ 52)) b (b % 2 ^ 52 + 2 ^ 52)
 
-pub few-shifts : (t m by : ℕ) → m ≡ t * 2 ^ by → 0 < t → m < 2 ^ 53 → by ≤ 52
-few-shifts t m by e p h =
-    let l : 1 * 2 ^ by ≤ t * 2 ^ by = mul-le-mul-right (2 ^ by) p in
-    le-of-suc-le-suc (lt-of-not-le (λ (g : 53 ≤ by). let k : 2 ^ 53 ≤ 2 ^ by = pow-mono g in omega arith))
+abbrev pub expoOf : ℕ → ℕ
+expoOf b = cond (ltb b (2 ^ 52)) 0 (b / 2 ^ 52 - 1)
 
--- a product of two bounded numbers
-pub product-lt : (a b c d : ℕ) → a < c → b < d → a * b < c * d
-product-lt a b c d h k = omega (arith, mul-le-mul h k)
+unfoldable pub amount : ℕ → ℕ
+amount b = mantOf b * 2 ^ expoOf b
+
+-- what a pattern's parts are
+pub record Parted (b m e : ℕ) : Type 0 where
+  pub small : m < 2 ^ 53
+  pub sum : e * 2 ^ 52 + m ≡ b
+  pub held : Held m e
+
+pub low-parts : (b : ℕ) → b < 2 ^ 52 → (b ≡ mantOf b) × (0 ≡ expoOf b)
+low-parts b h = rw (lt-ltb b (2 ^ 52) h) (refl, refl)
+
+pub high-parts : (b : ℕ) → 2 ^ 52 ≤ b → (b % 2 ^ 52 + 2 ^ 52 ≡ mantOf b) × (b / 2 ^ 52 - 1 ≡ expoOf b)
+high-parts b h = rw (le-ltb b (2 ^ 52) h) (refl, refl)
+
+pub parted : (b : ℕ) → Parted b (mantOf b) (expoOf b)
+parted b = elim (lt-or-le b (2 ^ 52)) [
+  | inl l ↦ subst (λ (m : ℕ). Parted b m (expoOf b)) (low-parts b l .0) (subst (λ (e : ℕ). Parted b b e) (low-parts b l .1) record { small = omega arith; sum = omega arith; held = inr refl })
+  | inr g ↦ subst (λ (m : ℕ). Parted b m (expoOf b)) (high-parts b g .0) (subst (λ (e : ℕ). Parted b (b % 2 ^ 52 + 2 ^ 52) e) (high-parts b g .1) record { small = omega arith; sum = omega arith; held = inl (omega arith) })
+]
+
+pub mant-pos : {b m e : ℕ} → Parted b m e → 0 < b → 0 < m
+mant-pos {b} {m} {e} P h = go (P .held)
+  where
+    go : Held m e → 0 < m
+    go (inl l) = omega arith
+    go (inr z) = omega (arith, P .sum)
+
+pub low-expo : {b m e : ℕ} → Parted b m e → m < 2 ^ 52 → e ≡ 0
+low-expo {b} {m} {e} P h = go (P .held)
+  where
+    go : Held m e → e ≡ 0
+    go (inl l) = absurd (omega arith)
+    go (inr z) = z
+
+pub expo-le : {b m e : ℕ} → Parted b m e → b < 2047 * 2 ^ 52 → e ≤ 2045
+expo-le {b} {m} {e} P h = go (P .held)
+  where
+    go : Held m e → e ≤ 2045
+    go (inl l) = omega (arith, P .sum)
+    go (inr z) = omega arith
+
+pub expo-mono : {a m e b n d : ℕ} → Parted a m e → Parted b n d → b ≤ a → d ≤ e
+expo-mono {a} {m} {e} {b} {n} {d} P Q h = go (Q .held)
+  where
+    go : Held n d → d ≤ e
+    go (inl l) = omega (arith, P .sum, P .small, Q .sum)
+    go (inr z) = omega arith
+
+-- a pattern and the parts that code has of it
+abbrev pub PartsOf : ℕ → ℕ → ℕ → Type 0
+PartsOf b m e = (m ≡ mantOf b) × (e ≡ expoOf b)
+
+pub parted-at : (b m e : ℕ) → PartsOf b m e → Parted b m e
+parted-at b m e h = rw (h .0, h .1) (parted b)
+
+pub amount-at : (b m e : ℕ) → PartsOf b m e → m * 2 ^ e ≡ amount b
+unfolding amount
+amount-at b m e h = rw (h .0, h .1)

@@ -1,10 +1,10 @@
 -- `roots::parts_of` meets its contract. Assumes nothing.
-use Rattle.roots.proofs.Sides.{low-parts, high-parts}
+use Rattle.laws.proofs.Patterns.{low-parts, high-parts}
 use borrow.Author.Needs.{needs}
-use Rattle.roots.proofs.parts_of.Statement.{statement}
-use Rattle.roots.proofs.parts_of.Tie as tie
-use Rattle.roots.proofs.parts_of.Reads as reads
-use Rattle.roots.proofs.parts_of.Lts as lts
+use Rattle.roots.proofs.pattern.parts_of.Statement.{statement}
+use Rattle.roots.proofs.pattern.parts_of.Tie as tie
+use Rattle.roots.proofs.pattern.parts_of.Reads as reads
+use Rattle.roots.proofs.pattern.parts_of.Lts as lts
 
 returns : tie.Need-returns
 returns c = low-parts (c .before .args .b) (c .if1 .taken)

@@ -4,12 +4,13 @@ use native.Mathlib.Nat.{mod-eq-of-lt}
 use Prim.Native.Nat.{ℕ, suc, _+_, _*_, _^_, _≤_}
 use borrow.Author.Needs.{needs}
 use native.Mathlib.Omega.{arith}
-use Rattle.roots.specs.Root.{sq, RootPair}
-use Rattle.roots.proofs.Loop.{Head, under, even-turn, odd-turn, done}
-use Rattle.roots.proofs.digits.Statement.{statement}
-use Rattle.roots.proofs.digits.Tie as tie
-use Rattle.roots.proofs.digits.Reads as reads
-use Rattle.roots.proofs.digits.Lts as lts
+use Rattle.roots.specs.Root.{sq}
+use Rattle.roots.specs.Inner.{RootPair}
+use Rattle.roots.proofs.DigitLoop.{Head, under, even-turn, odd-turn, done}
+use Rattle.roots.proofs.whole.digits.Statement.{statement}
+use Rattle.roots.proofs.whole.digits.Tie as tie
+use Rattle.roots.proofs.whole.digits.Reads as reads
+use Rattle.roots.proofs.whole.digits.Lts as lts
 
 abbrev Inv-loop : tie.InvT-loop
 Inv-loop word pairs root₀ rem₀ left₀ root rem left = Head ((sq root₀ + rem₀) * 2 ^ (pairs * 2) + word) word left root rem

@@ -1,11 +1,11 @@
 -- `roots::square` meets its contract. Assumes nothing.
 use native.Mathlib.Omega.{arith}
-use Rattle.roots.proofs.Limb.{parts-fit, square-is}
+use Rattle.roots.proofs.Limbs.{parts-fit, square-is}
 use borrow.Author.Needs.{needs}
-use Rattle.roots.proofs.square.Statement.{statement}
-use Rattle.roots.proofs.square.Tie as tie
-use Rattle.roots.proofs.square.Reads as reads
-use Rattle.roots.proofs.square.Lts as lts
+use Rattle.roots.proofs.wide.square.Statement.{statement}
+use Rattle.roots.proofs.wide.square.Tie as tie
+use Rattle.roots.proofs.wide.square.Reads as reads
+use Rattle.roots.proofs.wide.square.Lts as lts
 
 mul-m : tie.Need-mul-m
 mul-m c = omega (arith, parts-fit (c .args .q) (c .pre))

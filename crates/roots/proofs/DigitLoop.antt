@@ -4,7 +4,8 @@ use Prim.Native.Nat.{ℕ, suc, _+_, _-_, _*_, _/_, _%_, _^_, _≤_, _<_}
 use native.Mathlib.Nat.{mul-le-mul-right, mul-le-mul-left, mul-one, mod-one}
 use native.Mathlib.Omega.{arith}
 use lib.Pow.{pow-add, pow-pos, mod-pow-add}
-use Rattle.roots.specs.Root.{sq, RootPair}
+use Rattle.roots.specs.Root.{sq}
+use Rattle.roots.specs.Inner.{RootPair}
 
 -- what holds at the loop's head: n is the whole number whose root is taken
 pub record Head (n word left root rem : ℕ) : Type 0 where

@@ -10,18 +10,20 @@ use lib.Ieee.Digits.{size-lt, size-le, size-reaches}
 use lib.Pow.{pow-pos, pow-add, pow-mono}
 use lib.Ieee.{Float, binary64, size, nearest, units}
 use lib.Ieee.Exact.{HasValue, units-val}
-use Rattle.roots.specs.Root.{sq, Counted, IsNearestRoot, IsNearestEven, IsFloorRoot, isqrt, rootUnits, rootOf}
-use Rattle.roots.proofs.Whole.{sq-mono, sq-lt-back, isqrt-is}
-use Rattle.roots.proofs.Rounding.{Held, lt-or-le, square-pow}
-use Rattle.roots.proofs.Pattern.{size-gt, is-lt, is-eq, is-gt}
-use Rattle.roots.proofs.Read.{root-val, mag-pos}
+use Rattle.laws.proofs.Comparing.{lt-or-le, is-lt, is-eq, is-gt, size-gt}
+use Rattle.laws.proofs.Patterns.{Held}
+use Rattle.roots.specs.Root.{sq, isqrt, rootUnits, rootOf}
+use Rattle.roots.specs.Nearest.{Counted, IsNearestAlone, IsNearestEven, IsFloorRoot}
+use Rattle.roots.proofs.Squares.{sq-mono, sq-lt-back, isqrt-is}
+use Rattle.roots.proofs.Rounding.{square-pow}
+use Rattle.roots.proofs.AtPatterns.{root-val, mag-pos}
 
 -- ---- there is only one
 
-pub only-one : (n r s : ℕ) → IsNearestRoot n r → IsNearestRoot n s → r ≡ s
+pub only-one : (n r s : ℕ) → IsNearestAlone n r → IsNearestAlone n s → r ≡ s
 only-one n r s R S = le-antisymm (no-more r s R S) (no-more s r S R)
   where
-    no-more : (r s : ℕ) → IsNearestRoot n r → IsNearestRoot n s → r ≤ s
+    no-more : (r s : ℕ) → IsNearestAlone n r → IsNearestAlone n s → r ≤ s
     no-more r s R S = elim (lt-or-le s r) [
       | inl l ↦
           let a : sq (s + r) < 4 * n = R .below s (S .held) l in
@@ -92,14 +94,14 @@ module _ (n k w : ℕ) (lo : sq w * sq (2 ^ k) ≤ n) (hi : n < sq (suc w) * sq 
       let s : sq (r + r) ≤ sq (y + r) = sq-mono (let b : r + r ≤ y + r = omega arith in b) in
       omega arith
 
-  pub nearest-low : 4 * n < sq ((2 * w + 1) * 2 ^ k) → IsNearestRoot n (w * 2 ^ k)
+  pub nearest-low : 4 * n < sq ((2 * w + 1) * 2 ^ k) → IsNearestAlone n (w * 2 ^ k)
   nearest-low h = record { held = (w, k, W′, refl); below = λ y c l. low-below y l; above = λ y c l. lt-of-lt-of-le h (low-above y c l) }
 
-  pub nearest-high : sq ((2 * w + 1) * 2 ^ k) < 4 * n → IsNearestRoot n (suc w * 2 ^ k)
+  pub nearest-high : sq ((2 * w + 1) * 2 ^ k) < 4 * n → IsNearestAlone n (suc w * 2 ^ k)
   nearest-high h = record { held = counted-at (suc w) k W′; below = λ y c l. lt-of-le-of-lt (high-below y c l) h; above = λ y c l. high-above y l }
 
   -- one that is nearest alone is the nearest even one
-  alone : (q : ℕ) → Held q k → q ≤ 2 ^ 53 → IsNearestRoot n (q * 2 ^ k) → IsNearestEven n q k
+  alone : (q : ℕ) → Held q k → q ≤ 2 ^ 53 → IsNearestAlone n (q * 2 ^ k) → IsNearestEven n q k
   alone q H Q N = record {
     full = H;
     most = Q;
@@ -234,7 +236,7 @@ no-tie m j k w h W e = elim (lt-or-le (k * 2) (j + 2)) [
 -- ---- so `rootUnits` is the nearest value
 
 abbrev At : ℕ → Float → Type 0
-At n v = (r : ℕ) × HasValue v false r (2 ^ 1074) × IsNearestRoot n r
+At n v = (r : ℕ) × HasValue v false r (2 ^ 1074) × IsNearestAlone n r
 
 -- k and w as `rootUnits` has them
 module _ (n k w : ℕ) (K : suc (size n) / 2 - 53 ≡ k) (F : IsFloorRoot (n / sq (2 ^ k)) w) where

@@ -3,10 +3,10 @@ use mathlib.Core.Path.{_≡_}
 use Prim.Native.Nat.{_+_, _≤_}
 use native.Mathlib.Omega.{arith}
 use Rattle.roots.specs.Root.{sq}
-use Rattle.roots.proofs.climb.Statement.{statement}
-use Rattle.roots.proofs.climb.Tie as tie
-use Rattle.roots.proofs.climb.Reads as reads
-use Rattle.roots.proofs.climb.Lts as lts
+use Rattle.roots.proofs.whole.climb.Statement.{statement}
+use Rattle.roots.proofs.whole.climb.Tie as tie
+use Rattle.roots.proofs.whole.climb.Reads as reads
+use Rattle.roots.proofs.whole.climb.Lts as lts
 
 abbrev Inv-loop : tie.InvT-loop
 Inv-loop g r root₀ rem₀ root rem = (sq root + rem ≡ sq g + r) × (root + rem ≤ g + r)

@@ -1,13 +1,13 @@
 -- `roots::slow_wide_root` meets its contract. Assumes nothing.
 use native.Mathlib.Omega.{arith}
 use lib.Dec.{lit≤}
-use Rattle.roots.proofs.Limb.{first-small}
+use Rattle.roots.proofs.Limbs.{first-small}
 use borrow.Author.Needs.{needs}
-use Rattle.roots.proofs.slow_wide_root.Statement.{statement}
-use Rattle.roots.proofs.slow_wide_root.Tie as tie
-use Rattle.roots.proofs.slow_wide_root.Reads as reads
-use Rattle.roots.proofs.slow_wide_root.Lts as lts
-use Rattle.roots.proofs.digits.Reads as digits-reads
+use Rattle.roots.proofs.whole.slow_wide_root.Statement.{statement}
+use Rattle.roots.proofs.whole.slow_wide_root.Tie as tie
+use Rattle.roots.proofs.whole.slow_wide_root.Reads as reads
+use Rattle.roots.proofs.whole.slow_wide_root.Lts as lts
+use Rattle.roots.proofs.whole.digits.Reads as digits-reads
 
 digits-requires : tie.Need-digits-requires
 digits-requires c κs = search needs

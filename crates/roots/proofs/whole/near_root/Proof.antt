@@ -2,15 +2,15 @@
 use mathlib.Core.Path.{_∙_}
 use Prim.Native.Nat.{_^_, _<_}
 use native.Mathlib.Omega.{arith}
-use Rattle.roots.proofs.Limb.{high-lt, off-small, last-small, last-between}
+use Rattle.roots.proofs.Limbs.{high-lt, off-small, last-small, last-between}
 use borrow.Author.Needs.{needs}
-use Rattle.roots.proofs.near_root.Statement.{statement}
-use Rattle.roots.proofs.near_root.Tie as tie
-use Rattle.roots.proofs.near_root.Reads as reads
-use Rattle.roots.proofs.near_root.Lts as lts
-use Rattle.roots.proofs.cut_off.Reads as cut-off-reads
-use Rattle.roots.proofs.square.Reads as square-reads
-use Rattle.roots.proofs.wide_root.Reads as wide-root-reads
+use Rattle.roots.proofs.whole.near_root.Statement.{statement}
+use Rattle.roots.proofs.whole.near_root.Tie as tie
+use Rattle.roots.proofs.whole.near_root.Reads as reads
+use Rattle.roots.proofs.whole.near_root.Lts as lts
+use Rattle.roots.proofs.wide.cut_off.Reads as cut-off-reads
+use Rattle.roots.proofs.wide.square.Reads as square-reads
+use Rattle.roots.proofs.whole.wide_root.Reads as wide-root-reads
 
 a-high : (c : tie.After-square2) → c .before .square .result .hi < 2 ^ 54
 a-high c = high-lt _ _ _ (c .before .before .pre .0) (c .before .square .ensures .0)
