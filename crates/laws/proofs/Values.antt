@@ -1,17 +1,23 @@
 -- Floats by their bit patterns without the sign: an infinity, or a magnitude of so many units (2 ^ -1074); and a value has one float. Assumes nothing.
 use mathlib.Core.Path.{_≡_, refl, sym, ap, _∙_, subst}
 use mathlib.Core.Bool.{Bool, true, false, not, cond}
+use mathlib.Core.Logic.{inl, inr}
 use Prim.Native.Nat.{ℕ, zero, suc, _+_, _-_, _*_, _/_, _%_, _^_, _≤_, _<_}
-use native.Mathlib.Nat.{mul-div-cancel}
+use native.Mathlib.Nat.{mul-div-cancel, mul-pos, zero-mul}
 use native.Mathlib.Omega.{arith}
-use borrow.Author.Tests.{ne-eqb}
+use borrow.Author.Tests.{ne-eqb, ltb-true}
 use lib.IntN.{ℤ}
 use lib.Dec.{T, leb, eqb}
-use lib.Ieee.{Float, nan, inf, fin, binary64, up, down, size, odd, ofFields, ofBits, toBits, isNan, fits, div}
+use lib.Pow.{pow-pos}
+use lib.Ieee.{Float, nan, inf, fin, binary64, up, down, size, odd, ofFields, ofBits, toBits, isNan, fits, lt, div}
 use lib.Ieee.Bits.{ofBits-toBits}
 use lib.Ieee.Exact.{HasValue, odd-sign}
 use lib.Ieee.Fits.{down-pos}
-use Rattle.laws.specs.Floats.{+0, one}
+use lib.Ieee.Positive.{first-pos}
+use Rattle.laws.specs.Floats.{+0, one, finite}
+use Rattle.laws.proofs.Choices.{false-true}
+use Rattle.laws.proofs.Floats.{finite-no-nan}
+use Rattle.laws.proofs.Comparing.{lt-or-le}
 use Rattle.laws.proofs.Patterns.{mantOf, expoOf, amount, low-parts, high-parts}
 
 -- ---- the value of a pattern
@@ -94,3 +100,46 @@ pattern-of (fin t m e) s n h = rw (h .0, units-of m e n (h .1))
 pub same-value : (v w : Float) (s : Bool) (n : ℕ) → T (fits binary64 v) → T (fits binary64 w) → HasValue v s n (2 ^ 1074) → HasValue w s n (2 ^ 1074) → v ≡ w
 same-value v w s n f g h k =
     sym (ofBits-toBits binary64 v f) ∙ ap (λ (b : ℕ). ofBits binary64 b) (pattern-of v s n h ∙ sym (pattern-of w s n k)) ∙ ofBits-toBits binary64 w g
+
+-- ---- a finite float of the format
+
+infinite-not : (s : Bool) → finite (inf s) ≡ false
+unfolding finite
+infinite-not s = refl
+
+-- its pattern is below infinity's
+pub finite-pattern : (x : Float) → T (fits binary64 x) → finite x ≡ true → toBits binary64 x % 2 ^ 63 < 2047 * 2 ^ 52
+finite-pattern x f h = elim (lt-or-le (toBits binary64 x % 2 ^ 63) (2047 * 2 ^ 52)) [
+  | inl l ↦ l
+  | inr g ↦ false-true (sym (ap finite (infinite x f (finite-no-nan x h) g) ∙ infinite-not _) ∙ h)
+]
+
+pub finite-value : (x : Float) → T (fits binary64 x) → finite x ≡ true → HasValue x (leb (2 ^ 63) (toBits binary64 x)) (amount (toBits binary64 x % 2 ^ 63)) (2 ^ 1074)
+finite-value x f h = value x f (finite-pattern x f h)
+
+-- a value is finite, and a positive one has the sign clear and some units
+pub value-finite : (x : Float) (s : Bool) (n : ℕ) → HasValue x s n (2 ^ 1074) → finite x ≡ true
+unfolding finite
+value-finite nan s n h = absurd h
+value-finite (inf t) s n h = absurd h
+value-finite (fin t m e) s n h = refl
+
+pub above-zero : (x : Float) (s : Bool) (n : ℕ) → lt +0 x ≡ true → HasValue x s n (2 ^ 1074) → (s ≡ false) × (0 < n)
+unfolding lt ofBits
+above-zero nan s n h v = absurd v
+above-zero (inf t) s n h v = absurd v
+above-zero (fin true m e) s n h v = false-true h
+above-zero (fin false m e) s n h v = (sym (v .0), some (m * up e) n (down e) (ltb-true (0 * down e) (m * up e * 1) h) (v .1))
+  where
+    some : (a n d : ℕ) → 0 * d < a * 1 → a * 2 ^ 1074 ≡ n * d → 0 < n
+    some a n d h e = first-pos n d (subst (λ (x : ℕ). 0 < x) e (mul-pos (let z : 0 < a = omega (arith, zero-mul d) in z) (pow-pos 1074)))
+
+pub below-zero : (x : Float) (s : Bool) (n : ℕ) → lt x +0 ≡ true → HasValue x s n (2 ^ 1074) → (s ≡ true) × (0 < n)
+unfolding lt ofBits
+below-zero nan s n h v = absurd v
+below-zero (inf t) s n h v = absurd v
+below-zero (fin false m e) s n h v = absurd (omega (arith, ltb-true (m * up e * 1) (0 * down e) h, zero-mul (down e)))
+below-zero (fin true m e) s n h v = (sym (v .0), some (m * up e) n (down e) (ltb-true 0 (m * up e * 1 + 0 * down e) h) (v .1))
+  where
+    some : (a n d : ℕ) → 0 < a * 1 + 0 * d → a * 2 ^ 1074 ≡ n * d → 0 < n
+    some a n d h e = first-pos n d (subst (λ (x : ℕ). 0 < x) e (mul-pos (let z : 0 < a = omega (arith, zero-mul d) in z) (pow-pos 1074)))

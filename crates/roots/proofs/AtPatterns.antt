@@ -1,6 +1,6 @@
 -- What the root and the length are at a float, by its bit pattern or by its value. Assumes nothing.
 use mathlib.Core.Path.{_≡_, refl, sym, ap, _∙_, subst}
-use mathlib.Core.Bool.{Bool, true, false, not, cond}
+use mathlib.Core.Bool.{Bool, true, false, cond}
 use mathlib.Core.Logic.{_⊎_, inl, inr}
 use Prim.Native.Nat.{ℕ, zero, suc, _+_, _-_, _*_, _/_, _%_, _^_, _≤_, _<_}
 use native.Mathlib.Nat.{mul-pos, div-add-mod', mod-eq-of-lt, mul-assoc, add-comm}
@@ -8,9 +8,9 @@ use native.Mathlib.Omega.{arith}
 use borrow.Author.Tests.{le-leb, lt-leb}
 use lib.Dec.{T, leb, eqb}
 use lib.Pow.{pow-pos, pow-add}
-use lib.Ieee.{Float, nan, inf, fin, binary64, up, down, odd, ofFields, ofBits, toBits, fits}
+use lib.Ieee.{Float, nan, inf, fin, binary64, up, odd, ofFields, ofBits, toBits, fits}
 use lib.Ieee.Exact.{HasValue, odd-sign}
-use Rattle.laws.proofs.Patterns.{of-fields, amount, mantOf, expoOf, PartsOf, parted-at, amount-at, mant-pos}
+use Rattle.laws.proofs.Patterns.{of-fields, amount, PartsOf, parted-at, amount-at, mant-pos}
 use Rattle.laws.proofs.Values.{value, units-of}
 use Rattle.roots.specs.Root.{sq, mag, rootUnits, rootMag, rootOf}
 use Rattle.roots.specs.Hypot.{hypotOf}

@@ -1,7 +1,7 @@
 -- The arithmetic of one turn of the digit loop. Assumes nothing.
-use mathlib.Core.Path.{_≡_, refl, sym, ap, _∙_}
+use mathlib.Core.Path.{_≡_, ap, _∙_}
 use Prim.Native.Nat.{ℕ, suc, _+_, _-_, _*_, _/_, _%_, _^_, _≤_, _<_}
-use native.Mathlib.Nat.{mul-le-mul-right, mul-le-mul-left, mul-one, mod-one}
+use native.Mathlib.Nat.{mul-le-mul-right, mul-le-mul-left, mod-one}
 use native.Mathlib.Omega.{arith}
 use lib.Pow.{pow-add, pow-pos, mod-pow-add}
 use Rattle.roots.specs.Root.{sq}

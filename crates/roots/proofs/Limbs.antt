@@ -1,7 +1,7 @@
 -- Numbers of two limbs, hi * 2 ^ 54 + lo: a square, a part cut off, and the whole root of a sum. Assumes nothing.
-use mathlib.Core.Path.{_≡_, refl, sym, ap, _∙_, subst}
+use mathlib.Core.Path.{_≡_, sym, ap, _∙_}
 use Prim.Native.Nat.{ℕ, zero, suc, _+_, _-_, _*_, _/_, _%_, _^_, _≤_, _<_}
-use native.Mathlib.Nat.{mul-le-mul, mul-le-mul-left, mul-le-mul-right, mod-eq-of-lt, mod-lt, div-mul-le-self, div-add-mod', div-lt-iff-lt-mul, lt-of-lt-of-le}
+use native.Mathlib.Nat.{mul-le-mul-left, mul-le-mul-right, mod-eq-of-lt, mod-lt, div-mul-le-self, div-add-mod', div-lt-iff-lt-mul, lt-of-lt-of-le}
 use native.Mathlib.Omega.{arith}
 use lib.Pow.{pow-pos, pow-add, pow-mono}
 use Rattle.laws.proofs.Comparing.{product-lt}

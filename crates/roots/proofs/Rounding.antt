@@ -1,14 +1,13 @@
 -- A root that is known to be from q to q + 1, both times 2 ^ e, at half the format's unit or a quarter of it, rounded to the format. Assumes nothing.
 use mathlib.Core.Path.{_≡_, refl, sym, ap, _∙_, subst}
-use mathlib.Core.Bool.{Bool, true, false, not, cond}
+use mathlib.Core.Bool.{false}
 use mathlib.Core.Logic.{_⊎_, inl, inr}
-use Prim.Native.Nat.{ℕ, zero, suc, _+_, _-_, _*_, _/_, _%_, _^_, _≤_, _<_, compare, Ordering, Ordering·lt, Ordering·eq, Ordering·gt}
-use native.Mathlib.Nat.{mul-le-mul, mul-le-mul-left, mul-le-mul-right, mul-lt-mul-of-pos-right, mul-pos, lt-of-lt-of-le, lt-of-le-of-lt, le-trans, div-lt-iff-lt-mul, le-div-iff-mul-le, le-refl}
+use Prim.Native.Nat.{ℕ, suc, _+_, _-_, _*_, _/_, _%_, _^_, _≤_, _<_, compare, Ordering, Ordering·lt, Ordering·eq, Ordering·gt}
+use native.Mathlib.Nat.{mul-le-mul, mul-le-mul-right, mul-lt-mul-of-pos-right, mul-pos, lt-of-lt-of-le, lt-of-le-of-lt, le-trans, div-lt-iff-lt-mul, le-div-iff-mul-le}
 use native.Mathlib.Omega.{arith}
 use borrow.Author.Tests.{le-ltb}
-use lib.Dec.{T, ltb, leb, leb→le, nleb→lt}
 use lib.Pow.{pow-pos, pow-add}
-use lib.Ieee.{Float, inf, binary64, size, nearest, units, ofBits}
+use lib.Ieee.{inf, binary64, size, nearest, units, ofBits}
 use lib.Ieee.Digits.{size-le}
 use lib.Ieee.Nearest.{nearest-ge}
 use Rattle.laws.proofs.Comparing.{cmp-lt, cmp-eq, cmp-gt, size-gt}

@@ -1,12 +1,9 @@
 -- The two sides of a length, by their bit patterns: significands m and exponents e. Assumes nothing.
-use mathlib.Core.Path.{_≡_, refl, sym, ap, _∙_, subst}
-use mathlib.Core.Bool.{Bool, true, false, not, cond}
+use mathlib.Core.Path.{_≡_, sym, ap, _∙_, subst}
 use mathlib.Core.Logic.{_⊎_, inl, inr}
-use Prim.Native.Nat.{ℕ, zero, suc, _+_, _-_, _*_, _/_, _%_, _^_, _≤_, _<_}
-use native.Mathlib.Nat.{mul-le-mul, mul-le-mul-left, mul-le-mul-right, mul-lt-mul-of-pos-right, mul-pos, lt-of-lt-of-le, lt-of-le-of-lt, lt-of-mul-lt-mul-right, le-of-suc-le-suc, le-trans, mul-assoc}
+use Prim.Native.Nat.{ℕ, suc, _+_, _-_, _*_, _^_, _≤_, _<_}
+use native.Mathlib.Nat.{mul-le-mul, mul-le-mul-right, mul-lt-mul-of-pos-right, mul-pos, lt-of-lt-of-le, lt-of-mul-lt-mul-right, mul-assoc}
 use native.Mathlib.Omega.{arith}
-use borrow.Author.Tests.{lt-ltb, le-ltb}
-use lib.Dec.{ltb}
 use lib.Pow.{pow-pos, pow-add, pow-mono}
 use lib.Ieee.{binary64, ofBits}
 use Rattle.laws.proofs.Comparing.{product-lt}

@@ -1,9 +1,8 @@
 -- Whole roots: squares keep the order, a whole root is one number, and `isqrt` is it. Assumes nothing.
-use mathlib.Core.Path.{_≡_, refl, sym, ap, _∙_, subst}
+use mathlib.Core.Path.{_≡_, ap, _∙_}
 use mathlib.Core.Bool.{Bool, true, false, cond}
-use mathlib.Core.Logic.{_⊎_, inl, inr}
-use Prim.Native.Nat.{ℕ, zero, suc, _+_, _-_, _*_, _/_, _%_, _^_, _≤_, _<_}
-use native.Mathlib.Nat.{mul-le-mul, mul-le-mul-right, mul-le-mul-left, le-antisymm, le-of-suc-le-suc, lt-of-not-le, not-le-of-lt, lt-of-lt-of-le, pow-succ'}
+use Prim.Native.Nat.{ℕ, zero, suc, _-_, _*_, _/_, _^_, _≤_, _<_}
+use native.Mathlib.Nat.{mul-le-mul, mul-le-mul-left, le-antisymm, le-of-suc-le-suc, lt-of-not-le, not-le-of-lt}
 use native.Mathlib.Omega.{arith}
 use lib.Dec.{T, leb, leb→le, nleb→lt}
 use lib.Pow.{pow-pos, pow-add}
@@ -11,7 +10,6 @@ use lib.Ieee.{size}
 use lib.Ieee.Digits.{size-lt}
 use Rattle.roots.specs.Root.{sq, floorRoot, isqrt}
 use Rattle.roots.specs.Nearest.{IsFloorRoot}
-use Rattle.roots.specs.Inner.{RootPair}
 
 pub sq-mono : {a b : ℕ} → a ≤ b → sq a ≤ sq b
 sq-mono h = mul-le-mul h h
@@ -49,15 +47,5 @@ isqrt-is n =
     let e : 2 ^ (size n * 2) ≡ 2 ^ size n * 2 ^ size n = ap (λ (x : ℕ). 2 ^ x) (omega arith) ∙ pow-add 2 (size n) (size n) in
     floor-is (size n) n (omega (arith, size-lt n, mul-le-mul-left (2 ^ size n) (pow-pos (size n))))
 
-pub pair-floor : {n q r : ℕ} → RootPair n q r → IsFloorRoot n q
-pair-floor {n} {q} {r} P = record { low = omega (arith, P .sum); high = omega (arith, P .sum, P .small) }
-
 pub isqrt-of : {n q : ℕ} → IsFloorRoot n q → isqrt n ≡ q
 isqrt-of {n} Q = one-root (isqrt-is n) Q
-
--- the root of a number of 2j or 2j + 1 digits after the first has j after its first
-pub root-span : (n q j : ℕ) → IsFloorRoot n q → 2 ^ (j + j) ≤ n → n < 2 ^ (suc j + suc j) → (2 ^ j ≤ q) × (q < 2 ^ suc j)
-root-span n q j Q l h =
-    let a : sq (2 ^ j) ≤ n = subst (λ (x : ℕ). x ≤ n) (pow-add 2 j j) l in
-    let b : n < sq (2 ^ suc j) = subst (λ (x : ℕ). n < x) (pow-add 2 (suc j) (suc j)) h in
-    (le-of-suc-le-suc (sq-lt-back (2 ^ j) (suc q) (omega (arith, Q .high))), sq-lt-back q (2 ^ suc j) (omega (arith, Q .low)))

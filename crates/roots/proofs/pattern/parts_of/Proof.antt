@@ -1,4 +1,4 @@
--- `roots::parts_of` meets its contract. Assumes nothing.
+-- `roots::pattern::parts_of` meets its contract. Assumes nothing.
 use Rattle.laws.proofs.Patterns.{low-parts, high-parts}
 use borrow.Author.Needs.{needs}
 use Rattle.roots.proofs.pattern.parts_of.Statement.{statement}

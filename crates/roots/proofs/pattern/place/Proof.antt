@@ -1,4 +1,4 @@
--- `roots::place` meets its contract: each way out is a law of `proofs/Rounding.antt`. Assumes nothing.
+-- `roots::pattern::place` meets its contract: each way out is a law of `proofs/Rounding.antt`. Assumes nothing.
 use native.Mathlib.Omega.{arith}
 use Prim.Native.Nat.{_+_, _/_}
 use lib.Pow.{pow-add}

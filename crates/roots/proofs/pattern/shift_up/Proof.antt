@@ -1,5 +1,5 @@
--- `roots::shift_up` meets its contract. Assumes nothing.
-use mathlib.Core.Path.{_≡_, ap, _∙_, subst}
+-- `roots::pattern::shift_up` meets its contract. Assumes nothing.
+use mathlib.Core.Path.{_≡_}
 use Prim.Native.Nat.{ℕ, _+_, _-_, _*_, _^_, _≤_, _<_}
 use native.Mathlib.Nat.{mul-le-mul-right, lt-of-not-le, le-of-suc-le-suc}
 use native.Mathlib.Omega.{arith}

@@ -1,4 +1,4 @@
--- `roots::climb` meets its contract: root * root + rem stays, and rem falls. Assumes nothing.
+-- `roots::whole::climb` meets its contract: root * root + rem stays, and rem falls. Assumes nothing.
 use mathlib.Core.Path.{_≡_}
 use Prim.Native.Nat.{_+_, _≤_}
 use native.Mathlib.Omega.{arith}

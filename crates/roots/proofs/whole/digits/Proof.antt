@@ -1,11 +1,10 @@
--- `roots::digits` meets its contract: the loop's invariant is `Head`. Assumes nothing.
+-- `roots::whole::digits` meets its contract: the loop's invariant is `Head`. Assumes nothing.
 use mathlib.Core.Path.{ap}
 use native.Mathlib.Nat.{mod-eq-of-lt}
-use Prim.Native.Nat.{ℕ, suc, _+_, _*_, _^_, _≤_}
+use Prim.Native.Nat.{ℕ, _+_, _*_, _^_}
 use borrow.Author.Needs.{needs}
 use native.Mathlib.Omega.{arith}
 use Rattle.roots.specs.Root.{sq}
-use Rattle.roots.specs.Inner.{RootPair}
 use Rattle.roots.proofs.DigitLoop.{Head, under, even-turn, odd-turn, done}
 use Rattle.roots.proofs.whole.digits.Statement.{statement}
 use Rattle.roots.proofs.whole.digits.Tie as tie

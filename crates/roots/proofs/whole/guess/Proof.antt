@@ -1,4 +1,4 @@
--- `roots::guess` meets its contract: no pattern here is a NaN. Assumes nothing.
+-- `roots::whole::guess` meets its contract: no pattern here is a NaN. Assumes nothing.
 use native.Mathlib.Omega.{arith}
 use Rattle.laws.proofs.Floats.{self-same}
 use Rattle.laws.proofs.Patterns.{below-nan}

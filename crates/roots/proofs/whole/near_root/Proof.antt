@@ -1,4 +1,4 @@
--- `roots::near_root` meets its contract. Assumes nothing.
+-- `roots::whole::near_root` meets its contract. Assumes nothing.
 use mathlib.Core.Path.{_∙_}
 use Prim.Native.Nat.{_^_, _<_}
 use native.Mathlib.Omega.{arith}

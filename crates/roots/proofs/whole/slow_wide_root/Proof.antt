@@ -1,4 +1,4 @@
--- `roots::slow_wide_root` meets its contract. Assumes nothing.
+-- `roots::whole::slow_wide_root` meets its contract. Assumes nothing.
 use native.Mathlib.Omega.{arith}
 use lib.Dec.{lit≤}
 use Rattle.roots.proofs.Limbs.{first-small}

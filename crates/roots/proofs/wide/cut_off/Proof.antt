@@ -1,5 +1,4 @@
--- `roots::cut_off` meets its contract. Assumes nothing.
-use mathlib.Core.Path.{_≡_}
+-- `roots::wide::cut_off` meets its contract. Assumes nothing.
 use native.Mathlib.Omega.{arith}
 use native.Mathlib.Nat.{div-mul-le-self}
 use Prim.Native.Nat.{_^_}

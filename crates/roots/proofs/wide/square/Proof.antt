@@ -1,4 +1,4 @@
--- `roots::square` meets its contract. Assumes nothing.
+-- `roots::wide::square` meets its contract. Assumes nothing.
 use native.Mathlib.Omega.{arith}
 use Rattle.roots.proofs.Limbs.{parts-fit, square-is}
 use borrow.Author.Needs.{needs}
