@@ -2,6 +2,9 @@ pub mod Choices
 pub mod Loops
 pub mod Order
 pub mod Floats
+pub mod Comparing
+pub mod Patterns
+pub mod Values
 pub mod Rooms
 pub mod Calling
 pub mod Near
