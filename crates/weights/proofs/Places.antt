@@ -12,10 +12,12 @@ use lib.Ieee.{Float, nan}
 use Rattle.laws.specs.Loop.{for}
 use Rattle.laws.specs.Floats.{_*f_, at, positive}
 use Rattle.laws.specs.Room.{atFront}
+use borrow.Author.Tests.{le-leb}
+use Rattle.laws.proofs.Choices.{if-true}
 use Rattle.laws.proofs.Loops.{for-same}
 use Rattle.laws.proofs.Rooms.{put-next}
 use Rattle.weights.specs.declared.Weights.{Weights}
-use Rattle.weights.specs.Weights.{insertOf, sortOf, lesser, greater, midOf, medianOf, capOf, topOf, scaleOne, scaledOf, goodFirst, allGood, zeros, weighed}
+use Rattle.weights.specs.Weights.{insertOf, sortOf, lesser, greater, midOf, medianOf, capOf, topOf, scaleOne, scaledOf, goodFirst, allGood, zeros, weighed, weightsOf}
 
 -- lists that agree from k on agree from k + 1 on
 drop-more : (k : ℕ) (a b : List Float) → drop k a ≡ drop k b → drop (k + 1) a ≡ drop (k + 1) b
@@ -152,3 +154,16 @@ weighed-is ratio ws sorted scaled mid most ok h e1 e2 e3 e4 e5 =
     ∙ ap (atFront (scaledOf ratio ws)) e1 ∙ over-front (scaledOf ratio ws) (sortOf ws) zeros (length-map ws f ∙ sym (sort-length ws)) in
     let o : ok ≡ allGood (scaledOf ratio ws) = e5 ∙ ap (goodFirst n) s ∙ good-front n (scaledOf ratio ws) zeros (length-map ws f) in
     λ i. record { ok = o i; cap = ratio *f m i; w = s i }
+
+-- ---- what a caller with 1 to 256 weights holds
+
+pub scaled-length : (ratio : Float) (ws : List Float) → length (scaledOf ratio ws) ≡ length ws
+scaled-length ratio ws = length-map ws (scaleOne (capOf ratio ws) (topOf (capOf ratio ws) ws))
+
+pub weights-are : (ratio : Float) (ws : List Float) → 1 ≤ length ws → length ws ≤ 256 → weightsOf ratio ws ≡ weighed ratio ws
+unfolding weightsOf
+weights-are ratio ws l h = sym (if-true _ (le-leb 1 (length ws) l) (if-true _ (le-leb (length ws) 256 h) refl))
+
+pub take-weighed : (ratio : Float) (ws : List Float) → take (length ws) (weighed ratio ws .w) ≡ scaledOf ratio ws
+unfolding weighed
+take-weighed ratio ws = take-at (scaledOf ratio ws) (drop (length (scaledOf ratio ws)) zeros) (length ws) (scaled-length ratio ws)

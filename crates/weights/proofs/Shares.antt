@@ -15,7 +15,7 @@ use lib.Ieee.Order.{round-mono}
 use lib.Ieee.Scale.{round-same}
 use lib.Ieee.Compare.{differs-from-itself}
 use borrow.Author.Tests.{ltb-true, eqb-true, eqb-false}
-use Rattle.exponent.proofs.Numbers.{signless, round-signed}
+use Rattle.laws.proofs.Signs.{Signed, round-signed}
 use Rattle.laws.proofs.Order.{lt-or, lt→le, le-self, le-trans, lt-le-trans}
 use Rattle.laws.specs.Loop.{turns, for}
 use Rattle.laws.specs.Floats.{+0, one, at, finite, positive, minOf, maxOf}
@@ -34,7 +34,7 @@ unfolding round ofBits
 one-is = refl
 
 -- no value with a sign is above 0
-not-above : (z : Float) → signless true z → T (lt +0 z) → ⊥
+not-above : (z : Float) → Signed true z → T (lt +0 z) → ⊥
 unfolding lt ofBits
 not-above nan s h = h
 not-above (inf true) s h = h
