@@ -1,51 +1,43 @@
 -- What ln takes from the bit pattern of y: the exponent k and the digits' part f, by their bounds. Assumes nothing.
 use mathlib.Core.Path.{_≡_, refl, sym, ap, _∙_, subst}
-use mathlib.Core.Logic.{inl, inr}
 use Prim.Native.Nat.{ℕ, zero, suc, _+_, _-_, _*_, _/_, _%_, _^_, _≤_, _<_}
-use native.Mathlib.Nat.{lt-irrefl, lt-of-not-le, not-le-of-lt, mul-right-comm, mul-le-mul, le-trans, le-of-eq, le-of-lt, lt-of-lt-of-le, lt-of-le-of-lt, mul-pos, mul-comm, mul-assoc, mul-one, mul-le-mul-right, le-of-mul-le-mul-right, lt-of-mul-lt-mul-right, mul-div-cancel, eq-of-mul-eq-mul-right, mul-lt-mul-of-pos-right, le-div-iff-mul-le, div-lt-iff-lt-mul}
+use native.Mathlib.Nat.{lt-irrefl, lt-of-not-le, not-le-of-lt, mul-right-comm, mul-le-mul, le-trans, le-of-eq, lt-of-lt-of-le, lt-of-le-of-lt, mul-pos, mul-assoc, mul-one, le-of-mul-le-mul-right, lt-of-mul-lt-mul-right, mul-div-cancel, eq-of-mul-eq-mul-right, mul-lt-mul-of-pos-right, le-div-iff-mul-le, div-lt-iff-lt-mul}
 use native.Mathlib.Omega.{arith}
-use mathlib.Core.Bool.{Bool, true, false, not, _&&_, cond, true≢false}
-use lib.IntN.{ℤ, pos, negsuc}
+use mathlib.Core.Bool.{Bool, true, false, not, _&&_, true≢false}
+use lib.IntN.{ℤ}
 use lib.Dec.{T, ltb, leb, eqb, leb→le, ltb→lt, nltb→le, lit≤, lit<}
 use lib.Pow.{pow-pos, pow-mono, pow-add}
-use lib.Ieee.{Float, nan, inf, fin, binary64, prec, up, down, unlike, size, round, neg, sub, lt, fits, toBits, ofBits}
+use lib.Ieee.{Float, nan, inf, fin, binary64, up, down, size, round, neg, sub, lt, fits, toBits, ofBits}
 use lib.Ieee.Digits.{size-le, size-lt, size-reaches}
 use lib.Ieee.Fits.{kept-lt, up-pos, down-pos, and-l, and-r}
 use lib.Ieee.Exact.{HasValue, round-exact}
 use lib.Ieee.Back.{round-whole}
-use Rattle.exponent.specs.Steps.{plus, minus, times, whole, one', half}
+use Rattle.laws.specs.Floats.{_-f_, _*f_, num, half, one}
 use Rattle.exponent.specs.Ln.{digitsOf, root2, least, c2p54}
-use Rattle.exponent.proofs.Near.{Near}
-use Rattle.exponent.proofs.Rounded.{Rounds, rounded}
-use Rattle.exponent.proofs.Ops.{apply, mul-value, add-value, sub-value-less}
-use Rattle.exponent.proofs.Interval.{lim, Iv, iv-value, iv-round}
-use Rattle.exponent.proofs.Chain.{whole-value}
-use Rattle.exponent.proofs.Powers.{val, bits-is}
+use Rattle.laws.proofs.Near.{Near}
+use Rattle.laws.proofs.Rounded.{rounded}
+use Rattle.laws.proofs.Ops.{mul-value, add-value, sub-value-less, num-value, neg-value}
+use Rattle.laws.proofs.Interval.{Iv, iv-value, iv-round}
+use Rattle.exponent.proofs.Powers.{bits-is}
 
 -- ---- a difference of whole numbers is exact
-pub neg-value : (x : Float) (a c : ℕ) → HasValue x false a c → HasValue (neg x) true a c
-unfolding neg
-neg-value nan a c h = absurd h
-neg-value (inf s) a c h = absurd h
-neg-value (fin s m e) a c h = (ap not (h .0), h .1)
-
 one-less : (E d : ℕ) → E * 1 - d * 1 ≡ E - d
 one-less E d = omega arith
 
-pub exponent-iv : (E d lo hi : ℕ) (c : Float) → HasValue c false d 1 → E ≤ 3000 → d ≤ 3000 → d ≤ E + lo → E ≤ d + hi → Iv (minus (whole E) c) (lo * 1048576) (hi * 1048576)
+pub exponent-iv : (E d lo hi : ℕ) (c : Float) → HasValue c false d 1 → E ≤ 3000 → d ≤ 3000 → d ≤ E + lo → E ≤ d + hi → Iv (num E -f c) (lo * 1048576) (hi * 1048576)
 unfolding sub
 exponent-iv E d lo hi c C hE hd l h = go (ltb E d) (ltb→lt E d) (nltb→le E d)
   where
-    W : HasValue (whole E) false E 1
-    W = whole-value E (le-trans hE (lit≤ tt))
+    W : HasValue (num E) false E 1
+    W = num-value E (le-trans hE (lit≤ tt))
 
-    go : (t : Bool) → (T t → E < d) → (T (not t) → d ≤ E) → Iv (minus (whole E) c) (lo * 1048576) (hi * 1048576)
+    go : (t : Bool) → (T t → E < d) → (T (not t) → d ≤ E) → Iv (num E -f c) (lo * 1048576) (hi * 1048576)
     go true f g =
-        let e = sub-value-less (whole E) (neg c) E 1 d 1 (lit< tt) (lit< tt) W (neg-value c d 1 C) (omega (arith, f tt)) in
+        let e = sub-value-less (num E) (neg c) E 1 d 1 (lit< tt) (lit< tt) W (neg-value c d 1 C) (omega (arith, f tt)) in
         subst (λ (z : Float). Iv z (lo * 1048576) (hi * 1048576)) (sym (e ∙ ap (λ (n : ℕ). round binary64 true n 1) (one-less d E)))
         (iv-value (round binary64 true (d - E) 1) true (d - E) 1 (lo * 1048576) (hi * 1048576) (lit< tt) (round-whole binary64 true (d - E) (le-trans (omega arith) (lit≤ {m = 3000} tt))) (omega arith))
     go false f g =
-        let e = add-value (whole E) (neg c) true E 1 d 1 (lit< tt) (lit< tt) W (neg-value c d 1 C) (omega (arith, g tt)) in
+        let e = add-value (num E) (neg c) true E 1 d 1 (lit< tt) (lit< tt) W (neg-value c d 1 C) (omega (arith, g tt)) in
         subst (λ (z : Float). Iv z (lo * 1048576) (hi * 1048576)) (sym (e ∙ ap (λ (n : ℕ). round binary64 false n 1) (one-less E d)))
         (iv-value (round binary64 false (E - d) 1) false (E - d) 1 (lo * 1048576) (hi * 1048576) (lit< tt) (round-whole binary64 false (E - d) (le-trans (omega arith) (lit≤ {m = 3000} tt))) (omega arith))
 
@@ -76,7 +68,7 @@ digits-value b =
     (subst (λ (n : ℕ). HasValue (digitsOf b) false ((4503599627370496 + B % 4503599627370496) * 2 ^ n) (2 ^ 1074)) (fields b .1)
     (bits-is B (above b .0) (above b .1))))
 
-one-value : HasValue one' false 1 1
+one-value : HasValue one false 1 1
 unfolding ofBits
 one-value = (refl, refl)
 
@@ -88,15 +80,15 @@ half-value = (refl, refl)
 first : (q : ℕ) → 4503599627370496 ≤ q → q ≤ 6369051672525773 → (1 * 4503599627370496 ≤ q * 1) × ((q * 1 - 1 * 4503599627370496) * 1048576 ≤ 434599 * 4503599627370496)
 first q h k = omega arith
 
-pub upper-part : (m : Float) (q : ℕ) → HasValue m false q 4503599627370496 → 4503599627370496 ≤ q → q ≤ 6369051672525773 → Iv (minus m one') 0 434600
+pub upper-part : (m : Float) (q : ℕ) → HasValue m false q 4503599627370496 → 4503599627370496 ≤ q → q ≤ 6369051672525773 → Iv (m -f one) 0 434600
 unfolding sub
 upper-part m q M h k =
     let b = first q h k in
-    subst (λ (z : Float). Iv z 0 434600) (sym (add-value m (neg one') true q 4503599627370496 1 1 (lit< tt) (lit< tt) M (neg-value one' 1 1 one-value) (b .0)))
+    subst (λ (z : Float). Iv z 0 434600) (sym (add-value m (neg one) true q 4503599627370496 1 1 (lit< tt) (lit< tt) M (neg-value one 1 1 one-value) (b .0)))
     (iv-round false (q * 1 - 1 * 4503599627370496) 4503599627370496 434599 0 434600 (lit< tt) (b .1) (lit≤ tt) (lit≤ tt))
 
 -- m / 2 - 1, where m is more
-halved : (m : Float) (q : ℕ) → HasValue m false q 4503599627370496 → q < 9007199254740992 → HasValue (times m half) false q 9007199254740992
+halved : (m : Float) (q : ℕ) → HasValue m false q 4503599627370496 → q < 9007199254740992 → HasValue (m *f half) false q 9007199254740992
 halved m q M h =
     subst (λ (z : Float). HasValue z false q 9007199254740992) (sym (mul-value m half false false q 4503599627370496 1 2 (lit< tt) (lit< tt) M half-value ∙ ap (λ (n : ℕ). round binary64 false n 9007199254740992) (mul-one q)))
     (round-exact binary64 false q 9007199254740992 q 1021 (lit< tt) h (lt-of-lt-of-le (mul-lt-mul-of-pos-right h (pow-pos 1021)) (lit≤ tt)) (sym (mul-assoc q (2 ^ 1021) 9007199254740992)))
@@ -104,11 +96,11 @@ halved m q M h =
 second : (q : ℕ) → 6369051672525773 < q → q < 9007199254740992 → (q * 1 < 1 * 9007199254740992) × ((1 * 9007199254740992 - q * 1) * 1048576 ≤ 307199 * 9007199254740992)
 second q h k = omega arith
 
-pub lower-part : (m : Float) (q : ℕ) → HasValue m false q 4503599627370496 → 6369051672525773 < q → q < 9007199254740992 → Iv (minus (times m half) one') 307200 0
+pub lower-part : (m : Float) (q : ℕ) → HasValue m false q 4503599627370496 → 6369051672525773 < q → q < 9007199254740992 → Iv (m *f half -f one) 307200 0
 unfolding sub
 lower-part m q M h k =
     let b = second q h k in
-    subst (λ (z : Float). Iv z 307200 0) (sym (sub-value-less (times m half) (neg one') q 9007199254740992 1 1 (lit< tt) (lit< tt) (halved m q M k) (neg-value one' 1 1 one-value) (b .0)))
+    subst (λ (z : Float). Iv z 307200 0) (sym (sub-value-less (m *f half) (neg one) q 9007199254740992 1 1 (lit< tt) (lit< tt) (halved m q M k) (neg-value one 1 1 one-value) (b .0)))
     (iv-round true (1 * 9007199254740992 - q * 1) 9007199254740992 307199 307200 0 (lit< tt) (b .1) (lit≤ tt) (lit≤ tt))
 
 -- what the test against the root of 2 says
@@ -125,7 +117,7 @@ root-test (fin false m e) q h =
     )
 
 -- ---- the exponent's field
-pub fits-says : (s : Bool) (m : ℕ) (e : ℤ) → T (fits binary64 (fin s m e)) → 0 < m → (down e ≤ 2 ^ 1074) × (m * up e < 2 ^ 1024 * down e)
+fits-says : (s : Bool) (m : ℕ) (e : ℤ) → T (fits binary64 (fin s m e)) → 0 < m → (down e ≤ 2 ^ 1074) × (m * up e < 2 ^ 1024 * down e)
 unfolding fits
 fits-says s zero e t p = absurd (lt-irrefl 0 p)
 fits-says s (suc m) e t p =
@@ -196,7 +188,7 @@ unfolding lt ofBits
 below-least m e t = ltb→lt (m * up e * 2 ^ 1022) (1 * down e) t
 
 pub lifted-low : (m : ℕ) (e : ℤ) → T (fits binary64 (fin false m e)) → 0 < m → T (lt (fin false m e) least)
-    → (G : ℕ) × HasValue (times (fin false m e) c2p54) false G (2 ^ 1074) × (9007199254740992 ≤ G)
+    → (G : ℕ) × HasValue (fin false m e *f c2p54) false G (2 ^ 1074) × (9007199254740992 ≤ G)
 lifted-low m e t p l =
     let x = m * up e in
     let d = down e in

@@ -1,10 +1,10 @@
 -- The bit patterns of binary64's positive normal values: what number each stands for. (examples/rsqrt has the same for binary32.) Assumes nothing.
 use mathlib.Core.Path.{_≡_, refl, sym, ap, _∙_, subst}
 use Prim.Native.Nat.{ℕ, suc, _+_, _-_, _*_, _/_, _%_, _^_, _≤_, _<_}
-use native.Mathlib.Nat.{not-le-of-lt, mod-eq-of-lt, mul-pos, mul-mod-left, mul-div-cancel}
+use native.Mathlib.Nat.{not-le-of-lt, mod-eq-of-lt, mul-pos}
 use native.Mathlib.Omega.{arith}
 use mathlib.Core.Bool.{Bool, false, cond}
-use lib.Dec.{T, leb, eqb, leb→le, eqb→eq, not-T, lit<}
+use lib.Dec.{T, leb, eqb, leb→le, eqb→eq, not-T}
 use lib.Pow.{pow-pos}
 use lib.Ieee.{Float, nan, inf, binary64, odd, ofFields, ofBits}
 use lib.Ieee.Bits.{is-false, cond-no}

@@ -1,13 +1,12 @@
 // exp and ln of binary64 by fixed rounded steps (docs/ELEMENTARY.md).
 ghost use mathlib.Core.Path.{_≡_};
-ghost use Prim.Native.Nat.{_<_, _-_};
-ghost use Rattle.exponent.specs.Steps.{c746};
 ghost use mathlib.Core.Bool.{not};
+ghost use Prim.Native.Nat.{_<_, _≤_};
 ghost use lib.Dec.{T};
 ghost use lib.Ieee.{isNan, lt};
+ghost use Rattle.exponent.specs.Steps.{c746, correctedOf};
+ghost use Rattle.exponent.specs.Exp.{edge, hornerOf, fourthOf, lackOf, kernelOf, turnsOf, restOf, restLowOf, pow2Of, grownOf, shrunkOf, expOf};
 ghost use Rattle.exponent.specs.Ln.{tailOf, fifthOf, totalOf, joinedOf, digitsOf, normalOf, lnOf};
-ghost use Rattle.exponent.specs.Steps.{correctedOf};
-ghost use Rattle.exponent.specs.Exp.{edge, partial, fourthOf, lackOf, kernelOf, turnsOf, restOf, restLowOf, pow2Of, grownOf, shrunkOf, expOf};
 
 // h with its correction c, where that is no larger than g.
 fn corrected(h: f64, c: f64, g: f64) -> f64
@@ -21,15 +20,16 @@ fn corrected(h: f64, c: f64, g: f64) -> f64
     h
 }
 
-// 1 + x / k * e, for k from `from` down to `to` + 1.
-fn steps(x: f64, start: f64, from: u32, to: u32) -> f64
-    ensures { λ r. ⌜ r ≡ partial x to (from - to) start ⌝ }
+// e becomes 1 + x / k * e, n times, with k = from, from - 1, ..
+fn horner(x: f64, start: f64, from: u32, n: u32) -> f64
+    requires { ⌜ n ≤ from ⌝ }
+    ensures { λ r. ⌜ r ≡ hornerOf x from n start ⌝ }
 {
     let mut e: f64 = start;
-    let mut k: u32 = from;
-    while k > to {
-        e = 1.0 + x / (k as f64) * e;
-        k -= 1;
+    let mut j: u32 = 0;
+    while j < n {
+        e = 1.0 + x / ((from - j) as f64) * e;
+        j += 1;
     }
     e
 }
@@ -53,8 +53,8 @@ fn lack(x: f64, y: f64, q: f64, h: f64) -> f64
 fn kernel(x: f64, y: f64) -> f64
     ensures { λ r. ⌜ r ≡ kernelOf x y ⌝ }
 {
-    let q = steps(x, 1.0, 18, 4);
-    let h = steps(x, q, 4, 0);
+    let q = horner(x, 1.0, 18, 14);
+    let h = horner(x, q, 4, 4);
     corrected(h, lack(x, y, q, h), h * 2.220446049250313e-16)
 }
 
@@ -67,6 +67,7 @@ fn turns(a: f64) -> u64
     std::num::truncating_f64_to_u64(a * 1.4426950408889634 + 0.5)
 }
 
+// What is left of a with n times ln 2 taken off.
 fn rest(a: f64, n: u64) -> f64
     ensures { λ r. ⌜ r ≡ restOf a n ⌝ }
 {
@@ -90,6 +91,7 @@ fn pow2(b: u64) -> f64
     f64::from_bits(b * 4503599627370496)
 }
 
+// e ^ a, for an a from 0.3466 to 746.
 fn grown(a: f64) -> f64
     requires { ⌜ T (lt edge a) ⌝ }
     requires { ⌜ T (not (lt c746 a)) ⌝ }
@@ -101,6 +103,7 @@ fn grown(a: f64) -> f64
     e * pow2(1023 + h) * pow2(1023 + (n - h))
 }
 
+// e ^ -a, for the same a.
 fn shrunk(a: f64) -> f64
     requires { ⌜ T (lt edge a) ⌝ }
     requires { ⌜ T (not (lt c746 a)) ⌝ }
@@ -139,10 +142,10 @@ fn tail(z: f64) -> f64
     ensures { λ r. ⌜ r ≡ tailOf z ⌝ }
 {
     let mut p: f64 = 0.0;
-    let mut j: u32 = 11;
-    while j > 0 {
-        p = (p + 2.0 / ((2 * j + 3) as f64)) * z;
-        j -= 1;
+    let mut j: u32 = 0;
+    while j < 11 {
+        p = (p + 2.0 / ((25 - 2 * j) as f64)) * z;
+        j += 1;
     }
     p
 }
@@ -183,6 +186,7 @@ fn joined(k: f64, m: f64) -> f64
     )
 }
 
+// The digits of a bit pattern, as a number from 1 to 2.
 fn digits(b: u64) -> f64
     ensures { λ r. ⌜ r ≡ digitsOf b ⌝ }
 {

@@ -9,7 +9,7 @@ use lib.Pow.{pow-pos}
 use lib.IntN.{ℤ, pos, negsuc}
 use lib.Ieee.{Float, nan, inf, fin, binary64, up, down, lt, eq, ne, neg, div, fits, ofBits, toBits, nanBits, isNan}
 use lib.Ieee.Compare.{differs-from-itself}
-use lib.Ieee.Bits.{nanBits-is, nanBits-above}
+use lib.Ieee.Bits.{is-true, nanBits-is, nanBits-above}
 use borrow.Author.Tests.{ltb-true, ltb-false, eqb-true, eq-eqb}
 use Rattle.laws.specs.Floats.{absOf, finite, +0, one}
 use Rattle.laws.proofs.Choices.{false-true, both}
@@ -138,3 +138,16 @@ rest x false h k = abs-above x h k
 
 pub abs-off-zero : (x y : Float) → y ≡ unsigned x → eq y +0 ≡ false → y ≡ absOf x
 abs-off-zero x y e h = e ∙ rest x (lt x +0) refl (sym (ap (λ (z : Float). eq z +0) e) ∙ h)
+
+-- ---- the two zeros: what holds of +0 and -0 holds of every zero that fits
+with-sign : Bool → Float → Float
+with-sign s nan = nan
+with-sign s (inf t) = inf t
+with-sign s (fin t m e) = fin s m e
+
+pub zero-ind : (P : Float → Type 0) → P +0 → P (neg +0) → (x : Float) → T (fits binary64 x) → T (eq x +0) → P x
+unfolding neg ofBits eq with-sign absOf
+zero-ind P p q nan f h = absurd h
+zero-ind P p q (inf s) f h = absurd h
+zero-ind P p q (fin true m e) f h = subst P (ap (with-sign true) (abs-zero (fin true m e) f (is-true (eq (fin true m e) +0) h))) q
+zero-ind P p q (fin false m e) f h = subst P (ap (with-sign false) (abs-zero (fin false m e) f (is-true (eq (fin false m e) +0) h))) p

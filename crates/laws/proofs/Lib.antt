@@ -2,5 +2,14 @@ pub mod Choices
 pub mod Loops
 pub mod Order
 pub mod Floats
+pub mod Comparing
+pub mod Patterns
+pub mod Values
 pub mod Rooms
 pub mod Calling
+pub mod Near
+pub mod Rounded
+pub mod Ops
+pub mod Interval
+pub mod Signs
+pub mod Lies

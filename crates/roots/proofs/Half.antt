@@ -1,14 +1,13 @@
 -- The root of m * 2 ^ (s + 52): half the exponent, and the significand once or twice. Assumes nothing.
 use mathlib.Core.Path.{_≡_, refl, sym, ap, _∙_, subst}
 use Prim.Native.Nat.{ℕ, zero, suc, _+_, _*_, _/_, _%_, _^_, _≤_, _<_}
-use native.Mathlib.Nat.{mul-le-mul-left, add-zero, le-of-suc-le-suc}
+use native.Mathlib.Nat.{mul-le-mul-left, mul-pos, add-zero, le-of-suc-le-suc}
 use native.Mathlib.Omega.{arith}
 use lib.Pow.{pow-add, pow-pos}
-use Rattle.roots.specs.Root.{sq, RootPair}
-use Rattle.roots.specs.Hypot.{Between}
-use Rattle.roots.proofs.Whole.{sq-lt-back}
-use Rattle.roots.proofs.Limb.{between}
-use native.Mathlib.Nat.{mul-pos}
+use Rattle.roots.specs.Root.{sq}
+use Rattle.roots.specs.Inner.{RootPair, Between}
+use Rattle.roots.proofs.Squares.{sq-lt-back}
+use Rattle.roots.proofs.Limbs.{between}
 
 -- an exponent by its half and what is left
 small-pow : (p : ℕ) → p < 2 → p + 1 ≡ 2 ^ p

@@ -1,53 +1,28 @@
 -- A root that is known to be from q to q + 1, both times 2 ^ e, at half the format's unit or a quarter of it, rounded to the format. Assumes nothing.
 use mathlib.Core.Path.{_≡_, refl, sym, ap, _∙_, subst}
-use mathlib.Core.Bool.{Bool, true, false, not, cond}
+use mathlib.Core.Bool.{false}
 use mathlib.Core.Logic.{_⊎_, inl, inr}
-use Prim.Native.Nat.{ℕ, zero, suc, _+_, _-_, _*_, _/_, _%_, _^_, _≤_, _<_, compare, Ordering, Ordering·lt, Ordering·eq, Ordering·gt}
-use native.Mathlib.Nat.{mul-le-mul, mul-le-mul-left, mul-le-mul-right, mul-lt-mul-of-pos-right, mul-pos, lt-of-lt-of-le, lt-of-le-of-lt, le-trans, div-lt-iff-lt-mul, le-div-iff-mul-le, le-refl}
+use Prim.Native.Nat.{ℕ, suc, _+_, _-_, _*_, _/_, _%_, _^_, _≤_, _<_, compare, Ordering, Ordering·lt, Ordering·eq, Ordering·gt}
+use native.Mathlib.Nat.{mul-le-mul, mul-le-mul-right, mul-lt-mul-of-pos-right, mul-pos, lt-of-lt-of-le, lt-of-le-of-lt, le-trans, div-lt-iff-lt-mul, le-div-iff-mul-le}
 use native.Mathlib.Omega.{arith}
 use borrow.Author.Tests.{le-ltb}
-use lib.Dec.{T, ltb, leb, leb→le, nleb→lt}
 use lib.Pow.{pow-pos, pow-add}
-use lib.Ieee.{Float, inf, binary64, size, nearest, units, ofBits}
+use lib.Ieee.{inf, binary64, size, nearest, units, ofBits}
 use lib.Ieee.Digits.{size-le}
-use Rattle.roots.specs.Root.{sq, IsFloorRoot, rootUnits}
-use Rattle.roots.specs.Hypot.{Between}
-use Rattle.roots.proofs.Whole.{sq-mono, sq-lt-back}
-use Rattle.roots.proofs.Pattern.{cmp-lt, cmp-eq, cmp-gt, by-order, dropped, of-units, of-units-low}
-
--- the format holds w * 2 ^ k: w has all its digits, or none is dropped
-abbrev pub Held : ℕ → ℕ → Type 0
-Held w k = (2 ^ 52 ≤ w) ⊎ (k ≡ 0)
+use lib.Ieee.Nearest.{nearest-ge}
+use Rattle.laws.proofs.Comparing.{cmp-lt, cmp-eq, cmp-gt, size-gt}
+use Rattle.laws.proofs.Patterns.{Held, of-held, inf-pattern}
+use Rattle.roots.specs.Root.{sq, rootUnits}
+use Rattle.roots.specs.Nearest.{IsFloorRoot}
+use Rattle.roots.specs.Inner.{Between}
+use Rattle.roots.proofs.Squares.{sq-mono, isqrt-of}
 
 held-more : (w v k : ℕ) → w ≤ v → Held w k → Held v k
 held-more w v k h (inl l) = inl (omega arith)
 held-more w v k h (inr z) = inr z
 
-pub lt-or-le : (a b : ℕ) → (a < b) ⊎ (b ≤ a)
-lt-or-le a b = go (leb b a) (leb→le b a) (nleb→lt b a)
-  where
-    go : (t : Bool) → (T t → b ≤ a) → (T (not t) → a < b) → (a < b) ⊎ (b ≤ a)
-    go true y z = inr (y tt)
-    go false y z = inl (z tt)
-
-of-units-any : (w k : ℕ) → Held w k → w ≤ 2 ^ 53 → k ≤ 2045 → ofBits binary64 (k * 2 ^ 52 + w) ≡ units binary64 false w k
-of-units-any w k (inl l) h j = of-units w k l h j
-of-units-any w k (inr z) h j = rw z (elim (lt-or-le w (2 ^ 52)) [
-  | inl l ↦ ap (λ (x : ℕ). ofBits binary64 x) (let e : 0 * 2 ^ 52 + w ≡ w = omega arith in e) ∙ of-units-low w l
-  | inr g ↦ of-units w 0 g h (omega arith)
-])
-
 pub square-pow : (k : ℕ) → 2 ^ (k * 2) ≡ sq (2 ^ k)
 square-pow k = ap (λ (x : ℕ). 2 ^ x) (let e : k * 2 ≡ k + k = omega arith in e) ∙ pow-add 2 k k
-
-nearest-ge : (w : ℕ) (o : Ordering) → w ≤ nearest w o
-nearest-ge w Ordering·lt = le-refl w
-nearest-ge w Ordering·eq = omega arith
-nearest-ge w Ordering·gt = omega arith
-
-inf-pattern : ofBits binary64 (2047 * 2 ^ 52) ≡ inf false
-unfolding ofBits
-inf-pattern = refl
 
 too-large : (w : ℕ) → 2 ^ 52 ≤ w → units binary64 false w 2046 ≡ inf false
 unfolding units
@@ -55,6 +30,17 @@ too-large w h = rw (le-ltb (w * 2 ^ 2046) (2 ^ 2098) (mul-le-mul-right (2 ^ 2046
 
 too-large-at : (w k : ℕ) → k ≡ 2046 → 2 ^ 52 ≤ w → units binary64 false w k ≡ inf false
 too-large-at w k z h = ap (λ (x : ℕ). units binary64 false w x) z ∙ too-large w h
+
+-- ---- `rootUnits` by what decides it
+
+-- how many digits are dropped, of an n with 2 (52 + k) or 2 (52 + k) + 1 digits after its first
+pub dropped : (n k : ℕ) → 2 ^ (104 + k * 2) ≤ n → n < 2 ^ (106 + k * 2) → suc (size n) / 2 - 53 ≡ k
+dropped n k l h = omega (arith, size-gt n (104 + k * 2) l, size-le n (106 + k * 2) h)
+
+pub by-order : (n k q : ℕ) (o : Ordering) → suc (size n) / 2 - 53 ≡ k → IsFloorRoot (n / sq (2 ^ k)) q → compare (4 * n) (sq ((2 * q + 1) * 2 ^ k)) ≡ o
+    → rootUnits n ≡ units binary64 false (nearest q o) k
+unfolding rootUnits
+by-order n k q o e Q c = rw (e, isqrt-of Q, c)
 
 module _ (n e u k q more w : ℕ) (K : 2 ^ k ≡ 2 ^ e * u) (B : Between (4 * n) (sq (2 ^ e)) q more) (lo : 2 * u * w ≤ q) (hi : suc q ≤ 2 * u * suc w) (H : Held w k) (W : w < 2 ^ 53) where
   unit : (x : ℕ) → sq (x * u) * sq (2 ^ e) ≡ sq (x * 2 ^ k)
@@ -97,19 +83,19 @@ module _ (n e u k q more w : ℕ) (K : 2 ^ k ≡ 2 ^ e * u) (B : Between (4 * n)
   pub to-lower : k ≤ 2045 → q < (2 * w + 1) * u → ofBits binary64 (k * 2 ^ 52 + w) ≡ rootUnits n
   to-lower j h =
       let a : sq (suc q) * sq (2 ^ e) ≤ sq ((2 * w + 1) * u) * sq (2 ^ e) = mul-le-mul-right (sq (2 ^ e)) (sq-mono h) in
-      of-units-any w k H (omega arith) j ∙ sym (as-units Ordering·lt (cmp-lt _ _ (omega (arith, unit (2 * w + 1), B .high))))
+      of-held w k H (omega arith) j ∙ sym (as-units Ordering·lt (cmp-lt _ _ (omega (arith, unit (2 * w + 1), B .high))))
 
   pub to-even : k ≤ 2045 → q ≡ (2 * w + 1) * u → more ≡ 0 → ofBits binary64 (k * 2 ^ 52 + w + w % 2) ≡ rootUnits n
   to-even j h z =
       let a : sq ((2 * w + 1) * u) * sq (2 ^ e) ≡ 4 * n = subst (λ (x : ℕ). sq x * sq (2 ^ e) ≡ 4 * n) h (B .exact z) in
       ap (λ (x : ℕ). ofBits binary64 x) (let s : k * 2 ^ 52 + w + w % 2 ≡ k * 2 ^ 52 + (w + w % 2) = omega arith in s)
-      ∙ of-units-any (w + w % 2) k (held-more w (w + w % 2) k (omega arith) H) (omega arith) j
+      ∙ of-held (w + w % 2) k (held-more w (w + w % 2) k (omega arith) H) (omega arith) j
       ∙ sym (as-units Ordering·eq (cmp-eq _ _ (sym a ∙ unit (2 * w + 1))))
 
   up-by : k ≤ 2045 → sq ((2 * w + 1) * u) * sq (2 ^ e) < 4 * n → ofBits binary64 (k * 2 ^ 52 + w + 1) ≡ rootUnits n
   up-by j h =
       ap (λ (x : ℕ). ofBits binary64 x) (let s : k * 2 ^ 52 + w + 1 ≡ k * 2 ^ 52 + suc w = omega arith in s)
-      ∙ of-units-any (suc w) k (held-more w (suc w) k (omega arith) H) W j
+      ∙ of-held (suc w) k (held-more w (suc w) k (omega arith) H) W j
       ∙ sym (as-units Ordering·gt (cmp-gt _ _ (subst (λ (x : ℕ). x < 4 * n) (unit (2 * w + 1)) h)))
 
   pub to-upper : k ≤ 2045 → (2 * w + 1) * u ≤ q → (more ≡ 0 → ⊥) → ofBits binary64 (k * 2 ^ 52 + w + 1) ≡ rootUnits n

@@ -1,65 +1,17 @@
 -- The two sides of a length, by their bit patterns: significands m and exponents e. Assumes nothing.
-use mathlib.Core.Path.{_≡_, refl, sym, ap, _∙_, subst}
-use mathlib.Core.Bool.{Bool, true, false, not, cond}
+use mathlib.Core.Path.{_≡_, sym, ap, _∙_, subst}
 use mathlib.Core.Logic.{_⊎_, inl, inr}
-use Prim.Native.Nat.{ℕ, zero, suc, _+_, _-_, _*_, _/_, _%_, _^_, _≤_, _<_}
-use native.Mathlib.Nat.{mul-le-mul, mul-le-mul-left, mul-le-mul-right, mul-lt-mul-of-pos-right, mul-pos, lt-of-lt-of-le, lt-of-le-of-lt, lt-of-mul-lt-mul-right, le-of-suc-le-suc, le-trans, mul-assoc}
+use Prim.Native.Nat.{ℕ, suc, _+_, _-_, _*_, _^_, _≤_, _<_}
+use native.Mathlib.Nat.{mul-le-mul, mul-le-mul-right, mul-lt-mul-of-pos-right, mul-pos, lt-of-lt-of-le, lt-of-mul-lt-mul-right, mul-assoc}
 use native.Mathlib.Omega.{arith}
-use borrow.Author.Tests.{lt-ltb, le-ltb}
-use lib.Dec.{ltb}
 use lib.Pow.{pow-pos, pow-add, pow-mono}
 use lib.Ieee.{binary64, ofBits}
+use Rattle.laws.proofs.Comparing.{product-lt}
+use Rattle.laws.proofs.Patterns.{Held, amount, PartsOf, parted-at, amount-at, expo-le, expo-mono}
 use Rattle.roots.specs.Root.{sq, rootUnits}
-use Rattle.roots.specs.Hypot.{Between, mantOf, expoOf, amount}
-use Rattle.roots.proofs.Whole.{sq-mono, sq-lt-back}
-use Rattle.roots.proofs.Pattern.{product-lt}
-use Rattle.roots.proofs.Rounding.{Held, lt-or-le, to-lower}
-
--- what a pattern's parts are
-pub record Parted (b m e : ℕ) : Type 0 where
-  pub small : m < 2 ^ 53
-  pub sum : e * 2 ^ 52 + m ≡ b
-  pub held : Held m e
-
-pub low-parts : (b : ℕ) → b < 2 ^ 52 → (b ≡ mantOf b) × (0 ≡ expoOf b)
-low-parts b h = rw (lt-ltb b (2 ^ 52) h) (refl, refl)
-
-pub high-parts : (b : ℕ) → 2 ^ 52 ≤ b → (b % 2 ^ 52 + 2 ^ 52 ≡ mantOf b) × (b / 2 ^ 52 - 1 ≡ expoOf b)
-high-parts b h = rw (le-ltb b (2 ^ 52) h) (refl, refl)
-
-pub parted : (b : ℕ) → Parted b (mantOf b) (expoOf b)
-parted b = elim (lt-or-le b (2 ^ 52)) [
-  | inl l ↦ subst (λ (m : ℕ). Parted b m (expoOf b)) (low-parts b l .0) (subst (λ (e : ℕ). Parted b b e) (low-parts b l .1) record { small = omega arith; sum = omega arith; held = inr refl })
-  | inr g ↦ subst (λ (m : ℕ). Parted b m (expoOf b)) (high-parts b g .0) (subst (λ (e : ℕ). Parted b (b % 2 ^ 52 + 2 ^ 52) e) (high-parts b g .1) record { small = omega arith; sum = omega arith; held = inl (omega arith) })
-]
-
-pub mant-pos : {b m e : ℕ} → Parted b m e → 0 < b → 0 < m
-mant-pos {b} {m} {e} P h = go (P .held)
-  where
-    go : Held m e → 0 < m
-    go (inl l) = omega arith
-    go (inr z) = omega (arith, P .sum)
-
-pub low-expo : {b m e : ℕ} → Parted b m e → m < 2 ^ 52 → e ≡ 0
-low-expo {b} {m} {e} P h = go (P .held)
-  where
-    go : Held m e → e ≡ 0
-    go (inl l) = absurd (omega arith)
-    go (inr z) = z
-
-pub expo-le : {b m e : ℕ} → Parted b m e → b < 2047 * 2 ^ 52 → e ≤ 2045
-expo-le {b} {m} {e} P h = go (P .held)
-  where
-    go : Held m e → e ≤ 2045
-    go (inl l) = omega (arith, P .sum)
-    go (inr z) = omega arith
-
-pub expo-mono : {a m e b n d : ℕ} → Parted a m e → Parted b n d → b ≤ a → d ≤ e
-expo-mono {a} {m} {e} {b} {n} {d} P Q h = go (Q .held)
-  where
-    go : Held n d → d ≤ e
-    go (inl l) = omega (arith, P .sum, P .small, Q .sum)
-    go (inr z) = omega arith
+use Rattle.roots.specs.Inner.{Between}
+use Rattle.roots.proofs.Squares.{sq-lt-back}
+use Rattle.roots.proofs.Rounding.{to-lower}
 
 -- ---- the sum of the squares, from the larger exponent's scale
 
@@ -113,17 +65,6 @@ module _ (m e n d : ℕ) (o : d ≤ e) where
       gap _ (sq (2 ^ e)) (2 * m) (omega arith) (omega arith)
 
 -- ---- at the patterns
-
--- a pattern and the parts that code has of it
-abbrev pub PartsOf : ℕ → ℕ → ℕ → Type 0
-PartsOf b m e = (m ≡ mantOf b) × (e ≡ expoOf b)
-
-pub parted-at : (b m e : ℕ) → PartsOf b m e → Parted b m e
-parted-at b m e h = rw (h .0, h .1) (parted b)
-
-pub amount-at : (b m e : ℕ) → PartsOf b m e → m * 2 ^ e ≡ amount b
-unfolding amount
-amount-at b m e h = rw (h .0, h .1)
 
 pub sums : (a m e b n d : ℕ) → PartsOf a m e → PartsOf b n d → sq (m * 2 ^ e) + sq (n * 2 ^ d) ≡ sq (amount a) + sq (amount b)
 sums a m e b n d P Q = rw (amount-at a m e P, amount-at b n d Q)

@@ -1,4 +1,4 @@
--- `exponent::corrected` meets its contract. Assumes nothing.
+-- `corrected` meets its contract. Assumes nothing.
 use Rattle.exponent.specs.Steps.{correctedOf}
 use Rattle.exponent.proofs.corrected.Statement.{statement}
 use Rattle.exponent.proofs.corrected.Tie as tie

@@ -1,22 +1,12 @@
+-- `exp` meets its contract: each exit is the arm that `expOf` picks. Assumes nothing.
 use borrow.Author.Needs.{needs}
-use mathlib.Core.Path.{_≡_, refl, sym, subst}
+use mathlib.Core.Path.{sym, subst}
 use lib.Dec.{T}
-use mathlib.Core.Bool.{Bool, false, not}
-use lib.Ieee.{inf, div, ofBits}
-use Rattle.exponent.specs.Steps.{over, one', zero'}
+use mathlib.Core.Bool.{Bool, not}
 use Rattle.exponent.specs.Exp.{expOf}
-use Rattle.exponent.proofs.Small.{not-above-746, turned}
+use Rattle.exponent.proofs.Tests.{one-over-zero, not-above-746, turned}
 use Rattle.exponent.proofs.exp.Statement.{statement}
 use Rattle.exponent.proofs.exp.Tie as tie
-use Rattle.exponent.proofs.exp.Reads as reads
-use Rattle.exponent.proofs.exp.Lts as lts
-use Rattle.exponent.proofs.grown.Reads as grown-reads
-use Rattle.exponent.proofs.kernel.Reads as kernel-reads
-use Rattle.exponent.proofs.shrunk.Reads as shrunk-reads
-
-over-zero : over one' zero' ≡ inf false
-unfolding div ofBits
-over-zero = refl
 
 returns : tie.Need-returns
 unfolding expOf
@@ -24,7 +14,7 @@ returns c = rw (c .if1 .taken)
 
 returns-2 : tie.Need-returns-2
 unfolding expOf
-returns-2 c = rw (c .before .if1 .left, c .if2 .taken) over-zero
+returns-2 c = rw (c .before .if1 .left, c .if2 .taken) one-over-zero
 
 returns-3 : tie.Need-returns-3
 unfolding expOf
@@ -44,9 +34,6 @@ returns-5 : tie.Need-returns-5
 unfolding expOf
 returns-5 c = rw (c .before .before .before .before .before .if1 .left, c .before .before .before .before .if2 .left, c .before .before .before .if3 .left, c .before .before .if4 .left, c .before .if5 .taken) (cc)
 
-kernel-requires : tie.Need-kernel-requires
-kernel-requires c κs = search needs
-
 returns-6 : tie.Need-returns-6
 unfolding expOf
 returns-6 c = rw (c .before .before .before .before .before .if1 .left, c .before .before .before .before .if2 .left, c .before .before .before .if3 .left, c .before .before .if4 .left, c .before .if5 .left) (cc)
@@ -62,5 +49,5 @@ exp-spec =
     returns-4
     shrunk-requires
     returns-5
-    kernel-requires
+    (λ c κs. search needs)
     returns-6)

@@ -1,24 +1,12 @@
--- `exponent::kernel` meets its contract. Assumes nothing.
+-- `kernel` meets its contract. Assumes nothing.
 use borrow.Author.Needs.{needs}
 use Rattle.exponent.specs.Exp.{kernelOf, seriesOf, upperOf}
 use Rattle.exponent.proofs.kernel.Statement.{statement}
 use Rattle.exponent.proofs.kernel.Tie as tie
 
-steps-requires : tie.Need-steps-requires
-steps-requires c κs = search needs
-
-steps-requires-2 : tie.Need-steps-requires-2
-steps-requires-2 c κs = search needs
-
-lack-requires : tie.Need-lack-requires
-lack-requires c κs = search needs
-
-corrected-requires : tie.Need-corrected-requires
-corrected-requires c κs = search needs
-
 returns : tie.Need-returns
 unfolding kernelOf seriesOf upperOf
-returns c = cc
+returns c = rw (c .corrected .ensures, c .before .lack .ensures, c .before .before .horner2 .ensures, c .before .before .before .horner .ensures)
 
 pub kernel-spec : {M : Type 1} → statement M
-kernel-spec = tie.close (tie.spec steps-requires steps-requires-2 lack-requires corrected-requires returns)
+kernel-spec = tie.close (tie.spec (λ c κs. search needs) (λ c κs. search needs) (λ c κs. search needs) (λ c κs. search needs) returns)

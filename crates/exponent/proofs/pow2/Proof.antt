@@ -1,5 +1,4 @@
--- `exponent::pow2` meets its contract: the digits' field of the pattern is 0, so it is no NaN's. Assumes nothing.
-use mathlib.Core.Path.{_≡_, sym, ap, subst}
+-- `pow2` meets its contract: the digits' field of the pattern is 0, so it is no NaN's. Assumes nothing.
 use Prim.Native.Nat.{ℕ, _*_, _/_, _%_}
 use native.Mathlib.Nat.{mul-mod-left}
 use mathlib.Core.Bool.{Bool, true, false, not, _&&_}
@@ -17,14 +16,8 @@ no-nan : (b : ℕ) → T (not (nanBits binary64 (b * 4503599627370496)))
 unfolding nanBits
 no-nan b = rw (mul-mod-left b 4503599627370496) (second-false (eqb (b * 4503599627370496 % top binary64 / hid binary64) (ones binary64)))
 
-mul-result : tie.Need-mul-result
-mul-result c = search needs
-
 float-from-bits-result : tie.Need-float-from-bits-result
 float-from-bits-result c = no-nan _
 
-returns : tie.Need-returns
-returns c = search needs
-
 pub pow2-spec : {M : Type 1} → statement M
-pow2-spec = tie.close (tie.spec mul-result float-from-bits-result returns)
+pow2-spec = tie.close (tie.spec (λ c. search needs) float-from-bits-result (λ c. search needs))

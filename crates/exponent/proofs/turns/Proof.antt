@@ -1,6 +1,6 @@
--- `exponent::turns` meets its contract. That the quotient is in the cast's range is a fact of `Reduce`. Assumes nothing.
+-- `turns` meets its contract. That the quotient is in the cast's range is a fact of `Reduce`. Assumes nothing.
 use Rattle.exponent.specs.Exp.{turnsOf}
-use Rattle.exponent.proofs.Reduce.{cast-fine}
+use Rattle.exponent.proofs.ExpReduce.{cast-fine}
 use Rattle.exponent.proofs.turns.Statement.{statement}
 use Rattle.exponent.proofs.turns.Tie as tie
 

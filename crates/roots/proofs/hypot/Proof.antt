@@ -1,11 +1,13 @@
 -- `roots::hypot` meets its contract. Assumes nothing.
-use mathlib.Core.Path.{_≡_, sym, _∙_, ap, subst}
+use mathlib.Core.Path.{sym, _∙_, ap, subst}
 use lib.Dec.{T}
 use lib.Ieee.{Float, binary64, fits}
 use lib.Ieee.Compare.{differs-from-itself}
-use Rattle.roots.specs.Hypot.{hypotOf, besideNan}
-use Rattle.roots.proofs.Read.{no-nan, below-nan}
-use Rattle.roots.proofs.Ends.{value, infinite, nan-left, nan-right, inf-left, inf-right, both, swapped, overflow}
+use Rattle.laws.proofs.Floats.{self-same}
+use Rattle.laws.proofs.Patterns.{below-nan}
+use Rattle.laws.proofs.Values.{value, infinite, div-one-zero}
+use Rattle.roots.specs.Hypot.{hypotOf}
+use Rattle.roots.proofs.AtPatterns.{nan-right, inf-left, inf-right, both, swapped}
 use borrow.Author.Needs.{needs}
 use Rattle.roots.proofs.hypot.Statement.{statement}
 use Rattle.roots.proofs.hypot.Tie as tie
@@ -27,7 +29,7 @@ returns : tie.Need-returns
 returns c =
     let s = c .before .before in
     let e = differs-from-itself (s .args .x) (subst T (sym (c .before .if1 .taken)) tt) in
-    c .beside-nan .ensures ∙ sym (ap (λ (v : Float). hypotOf v (s .args .y)) e ∙ nan-left (s .args .y))
+    c .beside-nan .ensures ∙ sym (ap (λ (v : Float). hypotOf v (s .args .y)) e)
 
 beside-nan-requires-2 : tie.Need-beside-nan-requires-2
 beside-nan-requires-2 c κs = search needs
@@ -39,22 +41,22 @@ returns-2 c =
     c .beside-nan2 .ensures ∙ sym (ap (λ (v : Float). hypotOf (s .args .x) v) e ∙ nan-right (s .args .x))
 
 float-to-bits-a : tie.Need-float-to-bits-a
-float-to-bits-a c = no-nan (c .before .before .args .x) (c .before .if1 .left)
+float-to-bits-a c = self-same (c .before .before .args .x) (c .before .if1 .left)
 
 float-to-bits-b : tie.Need-float-to-bits-b
-float-to-bits-b c = no-nan (c .before .before .args .y) (c .if2 .left)
+float-to-bits-b c = self-same (c .before .before .args .y) (c .if2 .left)
 
 returns-3 : tie.Need-returns-3
 returns-3 c =
     let s = c .before .before .before in
-    let e = infinite (s .args .x) (held-x s) (no-nan _ (c .before .before .if1 .left)) (c .if3 .taken) in
-    overflow ∙ sym (ap (λ (v : Float). hypotOf v (s .args .y)) e ∙ inf-left _ (s .args .y))
+    let e = infinite (s .args .x) (held-x s) (self-same _ (c .before .before .if1 .left)) (c .if3 .taken) in
+    div-one-zero ∙ sym (ap (λ (v : Float). hypotOf v (s .args .y)) e ∙ inf-left _ (s .args .y))
 
 returns-4 : tie.Need-returns-4
 returns-4 c =
     let s = c .before .before .before .before in
-    let e = infinite (s .args .y) (held-y s) (no-nan _ (c .before .before .if2 .left)) (c .if4 .taken) in
-    overflow ∙ sym (ap (λ (v : Float). hypotOf (s .args .x) v) e ∙ inf-right (s .args .x) _)
+    let e = infinite (s .args .y) (held-y s) (self-same _ (c .before .before .if2 .left)) (c .if4 .taken) in
+    div-one-zero ∙ sym (ap (λ (v : Float). hypotOf (s .args .x) v) e ∙ inf-right (s .args .x) _)
 
 hypot-bits-requires : tie.Need-hypot-bits-requires
 hypot-bits-requires c κs = search needs

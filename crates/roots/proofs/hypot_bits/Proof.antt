@@ -2,16 +2,17 @@
 use mathlib.Core.Path.{_∙_, ap}
 use Prim.Native.Nat.{_≤_}
 use native.Mathlib.Omega.{arith}
+use Rattle.laws.proofs.Patterns.{Parted, parted-at, expo-le, expo-mono}
 use Rattle.roots.specs.Root.{rootUnits}
-use Rattle.roots.proofs.Sides.{Parted, parted-at, expo-le, expo-mono, near-between, near-held, sums, far}
+use Rattle.roots.proofs.Sides.{near-between, near-held, sums, far}
 use borrow.Author.Needs.{needs}
 use Rattle.roots.proofs.hypot_bits.Statement.{statement}
 use Rattle.roots.proofs.hypot_bits.Tie as tie
 use Rattle.roots.proofs.hypot_bits.Reads as reads
 use Rattle.roots.proofs.hypot_bits.Lts as lts
-use Rattle.roots.proofs.near_root.Reads as near-root-reads
-use Rattle.roots.proofs.parts_of.Reads as parts-of-reads
-use Rattle.roots.proofs.place.Reads as place-reads
+use Rattle.roots.proofs.whole.near_root.Reads as near-root-reads
+use Rattle.roots.proofs.pattern.parts_of.Reads as parts-of-reads
+use Rattle.roots.proofs.pattern.place.Reads as place-reads
 
 -- the parts of the two patterns, and their exponents' order
 larger : (c : tie.After-parts-of2) → Parted (c .before .before .args .a) (c .before .parts-of .result .m) (c .before .parts-of .result .e)

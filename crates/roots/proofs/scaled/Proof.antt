@@ -7,8 +7,8 @@ use Rattle.roots.proofs.scaled.Statement.{statement}
 use Rattle.roots.proofs.scaled.Tie as tie
 use Rattle.roots.proofs.scaled.Reads as reads
 use Rattle.roots.proofs.scaled.Lts as lts
-use Rattle.roots.proofs.place.Reads as place-reads
-use Rattle.roots.proofs.wide_root.Reads as wide-root-reads
+use Rattle.roots.proofs.pattern.place.Reads as place-reads
+use Rattle.roots.proofs.whole.wide_root.Reads as wide-root-reads
 
 add-wide-root : tie.Need-add-wide-root
 add-wide-root c = search needs

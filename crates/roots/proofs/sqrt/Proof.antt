@@ -1,23 +1,23 @@
 -- `roots::sqrt` meets its contract: each way out is a law at the pattern of x. Assumes nothing.
-use mathlib.Core.Path.{_≡_, refl, sym, ap, _∙_, subst}
-use Prim.Native.Nat.{ℕ, _+_, _-_, _*_, _^_, _<_}
+use mathlib.Core.Path.{_≡_, sym, _∙_, subst}
+use Prim.Native.Nat.{_-_, _^_, _<_}
 use native.Mathlib.Omega.{arith}
 use lib.Dec.{T}
 use lib.Ieee.{Float, binary64, fits, ofBits, toBits}
 use lib.Ieee.Bits.{ofBits-toBits, toBits-lt}
 use lib.Ieee.Compare.{differs-from-itself}
+use Rattle.laws.proofs.Floats.{self-same, div-zeros}
+use Rattle.laws.proofs.Patterns.{Parted, parted-at, mant-pos, low-expo, expo-le, below-nan}
 use Rattle.roots.specs.Root.{rootOf}
-use Rattle.roots.proofs.Read.{root-nan, at-zero, at-negative, at-infinity, no-nan, below-nan, invalid}
-use Rattle.roots.proofs.Sides.{Parted, parted-at, mant-pos, low-expo, expo-le}
-use Rattle.roots.proofs.Ends.{root-at}
+use Rattle.roots.proofs.AtPatterns.{root-nan, at-zero, at-negative, at-infinity, root-at}
 use borrow.Author.Needs.{needs}
 use Rattle.roots.proofs.sqrt.Statement.{statement}
 use Rattle.roots.proofs.sqrt.Tie as tie
 use Rattle.roots.proofs.sqrt.Reads as reads
 use Rattle.roots.proofs.sqrt.Lts as lts
-use Rattle.roots.proofs.parts_of.Reads as parts-of-reads
+use Rattle.roots.proofs.pattern.parts_of.Reads as parts-of-reads
 use Rattle.roots.proofs.scaled.Reads as scaled-reads
-use Rattle.roots.proofs.shift_up.Reads as shift-up-reads
+use Rattle.roots.proofs.pattern.shift_up.Reads as shift-up-reads
 
 -- the pattern is read back as x, and is a number of 64 bits
 held : (c : tie.Start) → T (fits binary64 (c .args .x))
@@ -41,7 +41,7 @@ returns c =
     rw e (sym root-nan)
 
 float-to-bits-b : tie.Need-float-to-bits-b
-float-to-bits-b c = no-nan (c .before .args .x) (c .if1 .left)
+float-to-bits-b c = self-same (c .before .args .x) (c .if1 .left)
 
 returns-2 : tie.Need-returns-2
 returns-2 c =
@@ -51,7 +51,7 @@ returns-2 c =
 returns-3 : tie.Need-returns-3
 returns-3 c =
     let s = c .before .before .before in
-    invalid ∙ sym (subst (λ (v : Float). rootOf v ≡ lib.Ieee.nan) (read-back s) (at-negative (toBits binary64 (s .args .x)) (c .if3 .taken) (in-range s) (c .before .if2 .left)))
+    div-zeros ∙ sym (subst (λ (v : Float). rootOf v ≡ lib.Ieee.nan) (read-back s) (at-negative (toBits binary64 (s .args .x)) (c .if3 .taken) (in-range s) (c .before .if2 .left)))
 
 returns-4 : tie.Need-returns-4
 returns-4 c =

@@ -1,0 +1,204 @@
+-- What holds of a cell, whatever its problem: it tries one face or all; where it yields something the objective is finite, no face that it tried and that qualifies has a smaller one,
+-- it is one of the faces tried, and of equal ones the first. Assumes nothing.
+use mathlib.Core.Path.{_≡_, refl, sym, ap, subst, _∙_}
+use mathlib.Core.Logic.{_⊎_, inl, inr, ⊎-elim}
+use mathlib.Core.Bool.{Bool, true, false, not, _&&_, _||_, cond}
+use mathlib.Core.List.{List}
+use Prim.Native.Nat.{ℕ, _+_, _<_, _≤_}
+use native.Mathlib.Nat.{eq-or-lt-of-le, le-of-suc-le-suc}
+use native.Mathlib.Omega.{arith}
+use lib.Dec.{T}
+use lib.Ieee.{Float, lt, le}
+use Rattle.laws.specs.Floats.{finite}
+use Rattle.laws.proofs.Choices.{cond-ind}
+use Rattle.laws.proofs.Floats.{finite-no-nan}
+use Rattle.laws.proofs.Loops.{for-ind}
+use Rattle.laws.proofs.Order.{lt-le-trans, lt-not-self, lt→le, lt-or}
+use Rattle.cell.specs.declared.Model.{Model}
+use Rattle.cell.specs.declared.Limits.{Limits}
+use Rattle.cell.specs.declared.Tried.{Tried}
+use Rattle.cell.specs.declared.Cell.{Cell}
+use Rattle.cell.specs.Faces.{faceAt}
+use Rattle.cell.specs.Least.{yOf, hOf, normalOf, objectiveOf}
+use Rattle.cell.specs.Cell.{Problem, noTry, tryOf, pickOf, bestOf, cellFrom, chosenFrom, chosenOf, problemOf, posedOf, fitModel, cellOf}
+use Rattle.cell.proofs.Laws.{try-ind}
+
+-- ---- the better of two
+
+-- b is as good as t: where t qualifies, b does too, and t's objective is not below b's
+pub record AsGood (b t : Tried) : Type 0 where
+  pub has : T (t .some) → T (b .some)
+  pub least : T (t .some) → T (lt (t .objective) (b .objective)) → ⊥
+
+abbrev Fine : Tried → Type 0
+Fine t = T (t .some) → finite (t .objective) ≡ true
+
+pick-new : (t b : Tried) → AsGood (pickOf t b) t
+unfolding pickOf
+pick-new t b = go (t .some) (b .some) (lt (t .objective) (b .objective)) refl refl refl
+  where
+    go : (x y z : Bool) → t .some ≡ x → b .some ≡ y → lt (t .objective) (b .objective) ≡ z → AsGood (cond (x && (not y || z)) t b) t
+    go false y z p q r = record { has = λ h. absurd (rw p at h); least = λ h. absurd (rw p at h) }
+    go true false z p q r = record { has = λ h. h; least = λ h. lt-not-self (t .objective) }
+    go true true true p q r = record { has = λ h. h; least = λ h. lt-not-self (t .objective) }
+    go true true false p q r = record { has = λ h. rw q tt; least = λ h k. rw r at k }
+
+pick-old : (t b x : Tried) → AsGood b x → AsGood (pickOf t b) x
+unfolding pickOf
+pick-old t b x g = go (t .some) (b .some) (lt (t .objective) (b .objective)) refl refl refl
+  where
+    go : (u y z : Bool) → t .some ≡ u → b .some ≡ y → lt (t .objective) (b .objective) ≡ z → AsGood (cond (u && (not y || z)) t b) x
+    go false y z p q r = g
+    go true false z p q r = record { has = λ h. rw p tt; least = λ h. absurd (rw q at (g .has h)) }
+    go true true true p q r =
+        record { has = λ h. rw p tt; least = λ h k. g .least h (lt-le-trans (x .objective) (t .objective) (b .objective) k (lt→le _ _ (rw r tt))) }
+    go true true false p q r = g
+
+at-most : (b x : Tried) → Fine b → Fine x → AsGood b x → T (b .some) → T (x .some) → T (le (b .objective) (x .objective))
+at-most b x fb fx g p q = go (le (b .objective) (x .objective)) (lt-or (b .objective) (x .objective) (finite-no-nan _ (fb p)) (finite-no-nan _ (fx q)))
+  where
+    go : (t : Bool) → (T (not t) → T (lt (x .objective) (b .objective))) → T t
+    go true h = tt
+    go false h = absurd (g .least q (h tt))
+
+-- ---- the best of any answers in turn
+
+module _ (f : ℕ → Tried) (fine : (t : ℕ) → Fine (f t)) where
+  -- b is answer number t, below k, and the qualifying ones before it have larger objectives
+  pub record FirstAt (k : ℕ) (b : Tried) (t : ℕ) : Type 0 where
+    pub below : t < k
+    pub is : b ≡ f t
+    pub earlier : (s : ℕ) → s < t → T (f s .some) → T (lt (f t .objective) (f s .objective))
+
+  record Leads (k : ℕ) (b : Tried) : Type 0 where
+    as-good : (s : ℕ) → s < k → AsGood b (f s)
+    first : T (b .some) → (t : ℕ) × FirstAt k b t
+
+  step : (j : ℕ) (b : Tried) → Leads j b → Leads (j + 1) (pickOf (f j) b)
+  unfolding pickOf
+  step j b L = record { as-good = all; first = go (f j .some) (b .some) (lt (f j .objective) (b .objective)) refl refl refl }
+    where
+      all : (s : ℕ) → s < j + 1 → AsGood (pickOf (f j) b) (f s)
+      all s l =
+          ⊎-elim (λ (e : s ≡ j). subst (λ (s : ℕ). AsGood (pickOf (f j) b) (f s)) (sym e) (pick-new (f j) b))
+          (λ h. pick-old (f j) b (f s) (L .as-good s h)) (eq-or-lt-of-le (below s l))
+        where
+          below : (s : ℕ) → s < j + 1 → s ≤ j
+          below s l = omega arith
+
+      stays : T (b .some) → (t : ℕ) × FirstAt (j + 1) b t
+      stays h =
+          let w = L .first h in
+          (w .0, record { below = omega (arith, w .1 .below); is = w .1 .is; earlier = w .1 .earlier })
+
+      fine-b : Fine b
+      fine-b h = let w = L .first h in ap (λ (t : Tried). finite (t .objective)) (w .1 .is) ∙ fine (w .0) (ap-some (w .1 .is) h)
+        where
+          ap-some : {x y : Tried} → x ≡ y → T (x .some) → T (y .some)
+          ap-some e h = subst (λ (t : Tried). T (t .some)) e h
+
+      go : (x y z : Bool) → f j .some ≡ x → b .some ≡ y → lt (f j .objective) (b .objective) ≡ z
+          → T (cond (x && (not y || z)) (f j) b .some) → (t : ℕ) × FirstAt (j + 1) (cond (x && (not y || z)) (f j) b) t
+      go false y z p q r h = stays h
+      go true true false p q r h = stays h
+      go true false z p q r h =
+          (j, record { below = omega arith; is = refl; earlier = λ s l k. absurd (rw q at (L .as-good s l .has k)) })
+      go true true true p q r h = (
+        j,
+        record {
+          below = omega arith;
+          is = refl;
+          earlier = λ s l k. lt-le-trans (f j .objective) (b .objective) (f s .objective) (rw r tt) (at-most b (f s) fine-b (fine s) (L .as-good s l) (rw q tt) k);
+        },
+      )
+
+-- ---- a cell over any problem
+
+module _ (o : List Float → Float) (p : Problem) (count : ℕ) where
+  abbrev pub tried : ℕ → Tried
+  tried t = tryOf o p (faceAt (p .u) (p .n) t)
+
+  tried-fine : (t : ℕ) → Fine (tried t)
+  tried-fine t = try-ind Fine o p (faceAt (p .u) (p .n) t) (λ h. absurd h) (λ x v e h. e)
+
+  best-leads : Leads tried tried-fine count (bestOf o p count)
+  unfolding bestOf
+  best-leads =
+      for-ind _ (Leads tried tried-fine) count (λ j b l L. step tried tried-fine j b L) noTry (record { as-good = λ s l. absurd (omega arith); first = λ h. absurd h })
+
+  best-fine : Fine (bestOf o p count)
+  best-fine h = let w = best-leads .first h in ap (λ (t : Tried). finite (t .objective)) (w .1 .is) ∙ tried-fine (w .0) (subst (λ (t : Tried). T (t .some)) (w .1 .is) h)
+
+  -- a cell tries one face or all
+  pub chosen-faces : (chosenOf o p count .faces ≡ 1) ⊎ (chosenOf o p count .faces ≡ count)
+  unfolding chosenOf chosenFrom cellFrom
+  chosen-faces = cond-ind (λ (c : Cell). (c .faces ≡ 1) ⊎ (c .faces ≡ count)) (tried 0 .some) (inl refl) (inr refl)
+
+  -- a cell that has a face has a finite objective
+  pub chosen-finite : T (chosenOf o p count .some) → finite (chosenOf o p count .objective) ≡ true
+  unfolding chosenOf chosenFrom cellFrom
+  chosen-finite = cond-ind (λ (c : Cell). T (c .some) → finite (c .objective) ≡ true) (tried 0 .some) (tried-fine 0) best-fine
+
+  -- c is as good as face t of the problem: where the face qualifies c has one, and the face's objective is not smaller
+  pub record Beats (c : Cell) (t : ℕ) : Type 0 where
+    pub has : T (tried t .some) → T (c .some)
+    pub least : T (tried t .some) → T (lt (tried t .objective) (c .objective)) → ⊥
+
+  -- no face that the cell tried is better than the cell
+  pub chosen-least : (t : ℕ) → t < chosenOf o p count .faces → Beats (chosenOf o p count) t
+  unfolding chosenOf chosenFrom cellFrom
+  chosen-least = go (tried 0 .some) refl
+    where
+      only : (t : ℕ) → t ≡ 0 → tried 0 .some ≡ true → Beats (cellFrom (tried 0) 1) t
+      only t e s =
+          subst (Beats (cellFrom (tried 0) 1)) (sym e) (record { has = λ h. h; least = λ h. lt-not-self (tried 0 .objective) })
+
+      go : (b : Bool) → tried 0 .some ≡ b → (t : ℕ) → t < cond b (cellFrom (tried 0) 1) (cellFrom (bestOf o p count) count) .faces → Beats (cond b (cellFrom (tried 0) 1) (cellFrom (bestOf o p count) count)) t
+      go true e t l = only t (omega arith) e
+      go false e t l = let g = best-leads .as-good t l in record { has = g .has; least = g .least }
+
+  -- c is face t of those it tried, and the qualifying ones before it have larger objectives
+  pub record First (c : Cell) (t : ℕ) : Type 0 where
+    pub below : t < c .faces
+    pub is : c ≡ cellFrom (tried t) (c .faces)
+    pub earlier : (s : ℕ) → s < t → T (tried s .some) → T (lt (tried t .objective) (tried s .objective))
+
+  -- a cell that has a face is one of those it tried, and of equal ones the first
+  pub chosen-first : T (chosenOf o p count .some) → (t : ℕ) × First (chosenOf o p count) t
+  unfolding chosenOf chosenFrom cellFrom
+  chosen-first = go (tried 0 .some)
+    where
+      go : (b : Bool) → T (cond b (cellFrom (tried 0) 1) (cellFrom (bestOf o p count) count) .some) → (t : ℕ) × First (cond b (cellFrom (tried 0) 1) (cellFrom (bestOf o p count) count)) t
+      go true h = (0, record { below = omega arith; is = refl; earlier = λ s l. absurd (omega arith) })
+      go false h =
+          let w = best-leads .first h in
+          (w .0, record { below = w .1 .below; is = ap (λ (b : Tried). cellFrom b count) (w .1 .is); earlier = w .1 .earlier })
+
+-- ---- the cell of a model
+
+module _ (k : Model) (ks ws ts : List Float) (l : Limits) (m sigma : Float) where
+  abbrev pub goal : List Float → Float
+  goal = objectiveOf (yOf ks m sigma) (λ i. hOf (yOf ks m sigma i)) ws ts
+
+  abbrev pub stated : Problem
+  stated = problemOf k (normalOf (yOf ks m sigma) (λ i. hOf (yOf ks m sigma i)) ws ts) sigma l
+
+  pub cell-faces : (cellOf k ks ws ts l m sigma .faces ≡ 1) ⊎ (cellOf k ks ws ts l m sigma .faces ≡ k .faces)
+  unfolding cellOf posedOf
+  cell-faces = chosen-faces goal stated (k .faces)
+
+  pub cell-finite : T (cellOf k ks ws ts l m sigma .some) → finite (cellOf k ks ws ts l m sigma .objective) ≡ true
+  unfolding cellOf posedOf
+  cell-finite = chosen-finite goal stated (k .faces)
+
+  pub cell-least : (t : ℕ) → t < cellOf k ks ws ts l m sigma .faces → Beats goal stated (k .faces) (cellOf k ks ws ts l m sigma) t
+  unfolding cellOf posedOf
+  cell-least = chosen-least goal stated (k .faces)
+
+  pub cell-first : T (cellOf k ks ws ts l m sigma .some) → (t : ℕ) × First goal stated (k .faces) (cellOf k ks ws ts l m sigma) t
+  unfolding cellOf posedOf
+  cell-first = chosen-first goal stated (k .faces)
+
+-- the fit: 1 or 64
+pub fit-faces : (ks ws ts : List Float) (l : Limits) (m sigma : Float) → (cellOf fitModel ks ws ts l m sigma .faces ≡ 1) ⊎ (cellOf fitModel ks ws ts l m sigma .faces ≡ 64)
+fit-faces ks ws ts l m sigma = cell-faces fitModel ks ws ts l m sigma

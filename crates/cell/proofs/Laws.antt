@@ -1,0 +1,131 @@
+-- Laws of the definitions that the functions' proofs and the callers' cite. Assumes nothing.
+use mathlib.Core.Path.{_≡_, refl, sym, ap, ap₂, subst, fun-ext, _∙_}
+use mathlib.Core.Logic.{⊎-elim}
+use mathlib.Core.Bool.{Bool, true, false, cond}
+use mathlib.Core.List.{List}
+use Prim.Native.Nat.{ℕ, zero, suc, _+_, _-_, _<_, _≤_}
+use native.Mathlib.Nat.{eq-or-lt-of-le}
+use native.Mathlib.Omega.{arith}
+use lib.ListN.{length, set, replicate, length-set, length-replicate}
+use lib.Seq.{getD-set-same, getD-set-other}
+use lib.Ieee.{Float, nan}
+use borrow.Author.Tests.{le-leb, eq-eqb}
+use Rattle.laws.specs.Loop.{turns}
+use Rattle.laws.specs.Floats.{_+f_, _*f_, +0, at, finite}
+use Rattle.laws.proofs.Choices.{cond-ind}
+use Rattle.laws.proofs.Loops.{for-keeps, for-same}
+use Rattle.solver.specs.declared.Solved.{Solved}
+use Rattle.cell.specs.declared.Face.{Face}
+use Rattle.cell.specs.declared.Model.{Model}
+use Rattle.cell.specs.declared.Limits.{Limits}
+use Rattle.cell.specs.declared.Normal.{Normal}
+use Rattle.cell.specs.declared.Tried.{Tried}
+use Rattle.cell.specs.Faces.{faceAt}
+use Rattle.cell.specs.Next.{Good, Ordered, nextOf}
+use Rattle.cell.specs.Polytope.{rowsOf, boundsOf, spreadOf, feasibleOf}
+use Rattle.cell.specs.Least.{addedTo, normalOf, baseOf, rightOf, restOf, objectiveOf, filled}
+use Rattle.cell.specs.Cell.{Problem, problem, solutionOf, widened, noTry, valuedOf, metOf, triedOf, tryOf, wins, pickOf, bestOf, chosenOf, problemOf, posedOf, fitModel, cellOf, innerOf}
+
+-- ---- the rows of the observations, computed once
+
+module _ (v : ℕ → Float) where
+  kept : (k j i : ℕ) (t : List Float) → i < j → at (turns (λ i t. set t i (v i)) k j t) i ≡ at t i
+  unfolding turns
+  kept zero j i t l = refl
+  kept (suc k) j i t l = kept k (j + 1) i (set t j (v j)) (omega arith) ∙ getD-set-other t j i (v j) nan (λ e. omega arith)
+
+  laid : (k j i : ℕ) (t : List Float) → j ≤ i → i < j + k → j + k ≤ length t → at (turns (λ i t. set t i (v i)) k j t) i ≡ v i
+  unfolding turns
+  laid zero j i t l m r = absurd (omega arith)
+  laid (suc k) j i t l m r =
+      ⊎-elim
+      (λ (e : j ≡ i). kept k (j + 1) i (set t j (v j)) (omega arith) ∙ subst (λ (i : ℕ). at (set t j (v j)) i ≡ v i) e (getD-set-same t j (v j) nan (omega arith)))
+      (λ h. laid k (j + 1) i (set t j (v j)) (omega arith) (omega arith) (omega (arith, length-set t j (v j))))
+      (eq-or-lt-of-le l)
+
+  pub filled-at : (n i : ℕ) → n ≤ 256 → i < n → at (filled n v) i ≡ v i
+  unfolding filled
+  filled-at n i s l = laid (n - 0) 0 i (replicate 256 +0) (omega arith) (omega arith) (omega (arith, length-replicate 256 +0))
+
+-- a cell asks of y and h only at the observations
+module _ (y z h g : ℕ → Float) (ws ts : List Float) (ys : (i : ℕ) → i < length ws → y i ≡ z i) (hs : (i : ℕ) → i < length ws → h i ≡ g i) where
+  normal-same : normalOf y h ws ts ≡ normalOf z g ws ts
+  unfolding normalOf
+  normal-same = for-same _ _ (length ws) (λ i l s. ap₂ (λ (a b : Float). addedTo s (at ts i) a b (at ws i)) (ys i l) (hs i l)) _
+
+  objective-same : (x : List Float) → objectiveOf y h ws ts x ≡ objectiveOf z g ws ts x
+  unfolding objectiveOf
+  objective-same x =
+      for-same _ _ (length ws) (λ i l s. ap₂ (λ (a b : Float). s +f at ts i *f restOf x a b (at ws i) *f restOf x a b (at ws i)) (ys i l) (hs i l)) _
+
+  pub posed-same : (k : Model) (l : Limits) (sigma : Float) → posedOf k y h ws ts l sigma ≡ posedOf k z g ws ts l sigma
+  unfolding posedOf
+  posed-same k l sigma = ap₂ (λ (o : List Float → Float) (n : Normal). chosenOf o (problemOf k n sigma l) (k .faces)) (fun-ext objective-same) normal-same
+
+-- the problem as the code puts it together
+pub posed-is :
+    (k : Model) (m n : Normal) (sigma : Float) (l : Limits) (base right g h : List Float) (s : Float)
+    → m ≡ n → base ≡ baseOf m → right ≡ rightOf m → g ≡ rowsOf → h ≡ boundsOf sigma (l .«a_min») (l .«a_max») → s ≡ spreadOf h
+    → problem (k .u) (k .n) base right g h (l .«pivot_tolerance») (l .«feasibility_tolerance» *f s) ≡ problemOf k n sigma l
+unfolding problemOf
+posed-is k m n sigma l base right g h s e eb er eg eh es = cc
+
+-- in range, `inner` is the cell of the fit
+pub inner-in-range :
+    (ks ws ts : List Float) (l : Limits) (m sigma : Float) → length ks ≤ 256 → length ws ≡ length ks → length ts ≡ length ks
+    → innerOf ks ws ts l m sigma ≡ cellOf fitModel ks ws ts l m sigma
+unfolding innerOf
+inner-in-range ks ws ts l m sigma r e f = rw (le-leb _ _ r, eq-eqb _ _ e, eq-eqb _ _ f)
+
+-- ---- the faces
+
+module _ {u n count : ℕ} (O : Ordered u n count) where
+  pub stepped : (t : ℕ) (f g : Face) → 1 ≤ t → t < count → f ≡ faceAt u n (t - 1) → g ≡ nextOf n f → g ≡ faceAt u n t
+  stepped t f g l m e d =
+      let k : t - 1 + 1 ≡ t = omega arith in
+      d ∙ ap (nextOf n) e ∙ O .step (t - 1) (omega arith) ∙ ap (faceAt u n) k
+
+  pub good-at : (t : ℕ) (f : Face) → t < count → f ≡ faceAt u n t → Good u n f
+  good-at t f l e = subst (Good u n) (sym e) (O .good t l)
+
+pub good-seven : {u n : ℕ} (f : Face) → u ≤ 3 → n ≤ 7 → Good u n f → Good 3 7 f
+good-seven f l m g = record { size = omega arith; a = omega arith; b = omega arith; c = omega arith }
+
+pub none-good : Good 3 7 (noTry .face)
+none-good = record { size = omega arith; a = omega arith; b = omega arith; c = omega arith }
+
+-- a face that was tried is nothing, or that face with a finite objective
+pub try-ind :
+    (P : Tried → Type 0) (o : List Float → Float) (p : Problem) (f : Face) → P noTry
+    → ((x : List Float) (v : Float) → finite v ≡ true → P (record { some = true; objective = v; x = x; face = f })) → P (tryOf o p f)
+unfolding tryOf triedOf metOf valuedOf
+try-ind P o p f none some = cond-ind P (s .ok) (cond-ind P (feasibleOf (p .g) (p .h) (p .n) (p .slack) (widened (s .x))) (go (finite v) refl) none) none
+  where
+    s : Solved
+    s = solutionOf (p .base) (p .right) (p .g) (p .h) (p .u) (p .pivot) f
+
+    v : Float
+    v = o (widened (s .x))
+
+    go : (b : Bool) → finite v ≡ b → P (cond b (record { some = true; objective = v; x = widened (s .x); face = f }) noTry)
+    go true e = some (widened (s .x)) v e
+    go false e = none
+
+-- what holds of nothing and of each face that is tried holds of the best
+pub best-ind : (P : Tried → Type 0) (o : List Float → Float) (p : Problem) (count : ℕ) → P noTry → ((t : ℕ) → t < count → P (tryOf o p (faceAt (p .u) (p .n) t))) → P (bestOf o p count)
+unfolding bestOf pickOf
+best-ind P o p count none each =
+    for-keeps P _ count (λ t l b q. cond-ind P (wins (tryOf o p (faceAt (p .u) (p .n) t)) b) (each t l) q) noTry none
+
+pub try-good : (o : List Float → Float) (p : Problem) (f : Face) (t : Tried) → Good 3 7 f → t ≡ tryOf o p f → Good 3 7 (t .face)
+try-good o p f t g e = subst (λ (t : Tried). Good 3 7 (t .face)) (sym e) (try-ind (λ (t : Tried). Good 3 7 (t .face)) o p f none-good (λ x v h. g))
+
+pub best-good : (o : List Float → Float) (p : Problem) (count : ℕ) (t : Tried) → Ordered (p .u) (p .n) count → t ≡ bestOf o p count → Good 3 7 (t .face)
+best-good o p count t O e =
+    subst (λ (t : Tried). Good 3 7 (t .face)) (sym e)
+    (best-ind (λ (t : Tried). Good 3 7 (t .face)) o p count none-good (λ i l. try-good o p (faceAt (p .u) (p .n) i) _ (good-seven _ (O .unknowns) (O .rows) (O .good i l)) refl))
+
+-- what does not qualify changes nothing
+pub passed-over : (t b : Tried) → t .some ≡ false → b ≡ pickOf t b
+unfolding pickOf
+passed-over t b e = rw e

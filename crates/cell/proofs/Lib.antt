@@ -1,0 +1,4 @@
+pub mod Laws
+pub mod Orders
+pub mod Cells
+pub mod Marked

@@ -1,0 +1,63 @@
+-- The weighted least squares at (m, sigma): w = a + d y + c h with y = (k - m) / sigma and h = hypot(y, 1). Definitions only.
+-- The rows (1, y, h) of the observations are functions of the index; k, w and the weight t are lists.
+use mathlib.Core.List.{List, [], _∷_}
+use Prim.Native.Nat.{ℕ}
+use lib.ListN.{length, set, replicate}
+use lib.Ieee.{Float}
+use Rattle.laws.specs.Loop.{for}
+use Rattle.laws.specs.Floats.{_+f_, _-f_, _*f_, _/f_, +0, one, two, at}
+use Rattle.roots.specs.Hypot.{hypotOf}
+use Rattle.cell.specs.declared.Line.{Line}
+use Rattle.cell.specs.declared.Normal.{Normal}
+
+-- (k - m) / sigma of observation i
+unfoldable pub yOf : List Float → Float → Float → ℕ → Float
+yOf ks m sigma i = (at ks i -f m) /f sigma
+
+unfoldable pub hOf : Float → Float
+hOf y = hypotOf y one
+
+-- ---- the normal equations
+
+-- to one line of them, s = weight x ri: s times w, and s times each rj
+unfoldable pub lineOf : Line → Float → Float → Float → Float → Line
+lineOf l s y h w = record { lin = l .lin +f s *f w; q0 = l .q0 +f s *f one; q1 = l .q1 +f s *f y; q2 = l .q2 +f s *f h }
+
+-- an observation of weight t added
+unfoldable pub addedTo : Normal → Float → Float → Float → Float → Normal
+addedTo n t y h w = record { a = lineOf (n .a) (t *f one) y h w; d = lineOf (n .d) (t *f y) y h w; c = lineOf (n .c) (t *f h) y h w }
+
+abbrev pub noLine : Line
+noLine = record { lin = +0; q0 = +0; q1 = +0; q2 = +0 }
+
+-- over the observations in turn
+unfoldable pub normalOf : (ℕ → Float) → (ℕ → Float) → List Float → List Float → Normal
+normalOf y h ws ts = for 0 (length ws) (λ i s. addedTo s (at ts i) (y i) (h i) (at ws i)) (record { a = noLine; d = noLine; c = noLine })
+
+-- twice q in the corner of the 6 by 6 matrix of the empty face
+abbrev pub baseOf : Normal → List Float
+baseOf n =
+    two *f n .a .q0 ∷ two *f n .a .q1 ∷ two *f n .a .q2 ∷ +0 ∷ +0 ∷ +0
+    ∷ two *f n .d .q0 ∷ two *f n .d .q1 ∷ two *f n .d .q2 ∷ +0 ∷ +0 ∷ +0
+    ∷ two *f n .c .q0 ∷ two *f n .c .q1 ∷ two *f n .c .q2 ∷ +0 ∷ +0 ∷ +0 ∷ replicate 18 +0
+
+-- twice lin
+abbrev pub rightOf : Normal → List Float
+rightOf n = two *f n .a .lin ∷ two *f n .d .lin ∷ two *f n .c .lin ∷ +0 ∷ +0 ∷ +0 ∷ []
+
+-- ---- the objective, summed directly
+
+abbrev pub restOf : List Float → Float → Float → Float → Float
+restOf x y h w = at x 0 +f at x 1 *f y +f at x 2 *f h -f w
+
+unfoldable pub objectiveOf : (ℕ → Float) → (ℕ → Float) → List Float → List Float → List Float → Float
+objectiveOf y h ws ts x =
+    for 0 (length ws) (λ i acc. acc +f at ts i *f restOf x (y i) (h i) (at ws i) *f restOf x (y i) (h i) (at ws i)) +0
+
+-- the same with the rows read from two lists
+abbrev pub objectiveAt : List Float → List Float → List Float → List Float → List Float → Float
+objectiveAt ys hs ws ts = objectiveOf (at ys) (at hs) ws ts
+
+-- v i in each place i below n of 256: rows that are worked out once
+unfoldable pub filled : ℕ → (ℕ → Float) → List Float
+filled n v = for 0 n (λ i t. set t i (v i)) (replicate 256 +0)

@@ -1,0 +1,126 @@
+// The weighted least squares at (m, sigma): the rows (1, y, h) of the observations, the normal equations, the objective.
+ghost use mathlib.Core.Path.{_≡_};
+ghost use Prim.Native.Nat.{_≤_};
+ghost use lib.ListN.{length};
+ghost use Rattle.laws.specs.Floats.{at};
+ghost use Rattle.cell.specs.Least.{filled, yOf, hOf, lineOf, addedTo, normalOf, baseOf, rightOf, objectiveOf};
+use crate::Line;
+use crate::Normal;
+
+// (k - m) / sigma of each observation.
+pub(crate) fn ys_of(ks: &[f64], m: f64, sigma: f64) -> [f64; 256]
+    requires { ⌜ length (now ks) ≤ 256 ⌝ }
+    ensures { λ r. ⌜ r ≡ filled (length (now (ks .entry))) (yOf (now (ks .entry)) m sigma) ⌝ }
+{
+    let mut t = [0.0; 256];
+    for i in 0..ks.len() {
+        t[i] = (ks[i] - m) / sigma;
+    }
+    t
+}
+
+// Its hypotenuse with 1.
+pub(crate) fn hs_of(ys: &[f64; 256], n: usize) -> [f64; 256]
+    requires { ⌜ n ≤ 256 ⌝ }
+    ensures { λ r. ⌜ r ≡ filled n (λ i. hOf (at (now (ys .entry)) i)) ⌝ }
+{
+    let mut t = [0.0; 256];
+    for i in 0..n {
+        t[i] = roots::hypot(ys[i], 1.0);
+    }
+    t
+}
+
+fn line_plus(l: Line, s: f64, y: f64, h: f64, w: f64) -> Line
+    ensures { λ r. ⌜ r ≡ lineOf l s y h w ⌝ }
+{
+    Line {
+        lin: l.lin + s * w,
+        q0: l.q0 + s * 1.0,
+        q1: l.q1 + s * y,
+        q2: l.q2 + s * h,
+    }
+}
+
+fn added(n: Normal, t: f64, y: f64, h: f64, w: f64) -> Normal
+    ensures { λ r. ⌜ r ≡ addedTo n t y h w ⌝ }
+{
+    let a = line_plus(n.a, t * 1.0, y, h, w);
+    let d = line_plus(n.d, t * y, y, h, w);
+    let c = line_plus(n.c, t * h, y, h, w);
+    Normal { a, d, c }
+}
+
+// The normal equations.
+pub(crate) fn normal_sum(ys: &[f64; 256], hs: &[f64; 256], ws: &[f64], ts: &[f64]) -> Normal
+    requires { ⌜ (length (now ws) ≤ 256) × (length (now ts) ≡ length (now ws)) ⌝ }
+    ensures { λ r. ⌜ r ≡ normalOf (at (now (ys .entry))) (at (now (hs .entry))) (now (ws .entry)) (now (ts .entry)) ⌝ }
+{
+    let mut n = Normal {
+        a: Line {
+            lin: 0.0,
+            q0: 0.0,
+            q1: 0.0,
+            q2: 0.0,
+        },
+        d: Line {
+            lin: 0.0,
+            q0: 0.0,
+            q1: 0.0,
+            q2: 0.0,
+        },
+        c: Line {
+            lin: 0.0,
+            q0: 0.0,
+            q1: 0.0,
+            q2: 0.0,
+        },
+    };
+    for i in 0..ws.len() {
+        n = added(n, ts[i], ys[i], hs[i], ws[i]);
+    }
+    n
+}
+
+// Twice q, in the corner of the matrix of the empty face.
+pub(crate) fn base_of(n: Normal) -> [f64; 36]
+    ensures { λ r. ⌜ r ≡ baseOf n ⌝ }
+{
+    let mut m = [0.0; 36];
+    m[0] = 2.0 * n.a.q0;
+    m[1] = 2.0 * n.a.q1;
+    m[2] = 2.0 * n.a.q2;
+    m[6] = 2.0 * n.d.q0;
+    m[7] = 2.0 * n.d.q1;
+    m[8] = 2.0 * n.d.q2;
+    m[12] = 2.0 * n.c.q0;
+    m[13] = 2.0 * n.c.q1;
+    m[14] = 2.0 * n.c.q2;
+    m
+}
+
+// Twice lin.
+pub(crate) fn right_of(n: Normal) -> [f64; 6]
+    ensures { λ r. ⌜ r ≡ rightOf n ⌝ }
+{
+    [2.0 * n.a.lin, 2.0 * n.d.lin, 2.0 * n.c.lin, 0.0, 0.0, 0.0]
+}
+
+// The weighted sum of squares at x, summed directly.
+pub(crate) fn objective(
+    ys: &[f64; 256],
+    hs: &[f64; 256],
+    ws: &[f64],
+    ts: &[f64],
+    x: &[f64; 3],
+) -> f64
+    requires { ⌜ (length (now ws) ≤ 256) × (length (now ts) ≡ length (now ws)) ⌝ }
+    ensures { λ r. ⌜ r ≡ objectiveOf (at (now (ys .entry))) (at (now (hs .entry))) (now (ws .entry)) (now (ts .entry)) (now (x .entry)) ⌝ }
+{
+    let mut acc = 0.0;
+    for i in 0..ws.len() {
+        let r = x[0] + x[1] * ys[i] + x[2] * hs[i] - ws[i];
+        acc = acc + ts[i] * r * r;
+    }
+    acc
+}

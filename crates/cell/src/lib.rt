@@ -1,0 +1,233 @@
+// One cell (m, sigma) of the search: the least squares over the polytope by trying its faces, `inner` of calibrate.rs.
+mod least;
+mod order;
+pub mod polytope;
+mod trial;
+
+ghost use mathlib.Core.Path.{_≡_};
+ghost use mathlib.Core.Bool.{false};
+ghost use Prim.Native.Nat.{_≤_};
+ghost use lib.ListN.{length};
+ghost use Rattle.laws.specs.Floats.{at};
+ghost use Rattle.cell.specs.Faces.{faceAt};
+ghost use Rattle.cell.specs.Next.{Good, Ordered};
+ghost use Rattle.cell.specs.Least.{objectiveAt};
+ghost use Rattle.cell.specs.Cell.{problem, tryOf, bestOf, cellFrom, chosenOf, posedOf, cellOf, innerOf};
+
+// A face: how many of its constraints are held, and which, rising; what is not used is 0.
+pub struct Face {
+    pub size: usize,
+    pub a: usize,
+    pub b: usize,
+    pub c: usize,
+}
+
+// A model of the fit: its unknowns, its constraints, and its faces.
+pub struct Model {
+    pub u: usize,
+    pub n: usize,
+    pub faces: usize,
+}
+
+// What a fit fixes for all its cells.
+#[repr(C)]
+pub struct Limits {
+    pub a_min: f64,
+    pub a_max: f64,
+    pub pivot_tolerance: f64,
+    pub feasibility_tolerance: f64,
+}
+
+// One line of the normal equations: its right side, and its three entries.
+pub struct Line {
+    pub lin: f64,
+    pub q0: f64,
+    pub q1: f64,
+    pub q2: f64,
+}
+
+// The normal equations: the lines of a, d and c.
+pub struct Normal {
+    pub a: Line,
+    pub d: Line,
+    pub c: Line,
+}
+
+// A face that was tried: whether it qualifies, its objective, its point and itself.
+pub struct Tried {
+    pub some: bool,
+    pub objective: f64,
+    pub x: [f64; 3],
+    pub face: Face,
+}
+
+// A cell: whether a face qualifies, the best one's objective, point (a, d, c) and constraints, and how many faces were tried.
+#[repr(C)]
+pub struct Cell {
+    pub some: bool,
+    pub objective: f64,
+    pub x: [f64; 3],
+    pub active: [bool; 7],
+    pub faces: usize,
+}
+
+// The best of all faces, where the empty one does not qualify.
+fn best(
+    base: &[f64; 36],
+    right: &[f64; 6],
+    g: &[f64; 21],
+    h: &[f64; 7],
+    ys: &[f64; 256],
+    hs: &[f64; 256],
+    ws: &[f64],
+    ts: &[f64],
+    k: Model,
+    pivot: f64,
+    slack: f64,
+) -> Tried
+    requires { ⌜ Ordered (k .u) (k .n) (k .faces) × (length (now ws) ≤ 256) × (length (now ts) ≡ length (now ws)) ⌝ }
+    requires { ⌜ tryOf (objectiveAt (now ys) (now hs) (now ws) (now ts)) (problem (k .u) (k .n) (now base) (now right) (now g) (now h) pivot slack) (faceAt (k .u) (k .n) 0) .some ≡ false ⌝ }
+    ensures { λ r. ⌜ r ≡ bestOf (objectiveAt (now (ys .entry)) (now (hs .entry)) (now (ws .entry)) (now (ts .entry))) (problem (k .u) (k .n) (now (base .entry)) (now (right .entry)) (now (g .entry)) (now (h .entry)) pivot slack) (k .faces) ⌝ }
+{
+    let mut b = Tried {
+        some: false,
+        objective: 0.0,
+        x: [0.0; 3],
+        face: Face {
+            size: 0,
+            a: 0,
+            b: 0,
+            c: 0,
+        },
+    };
+    let mut f = Face {
+        size: 0,
+        a: 0,
+        b: 0,
+        c: 0,
+    };
+    for t in 1..k.faces {
+        f = order::next(f, k.n);
+        let e = trial::try_face(base, right, g, h, ys, hs, ws, ts, k, pivot, slack, f);
+        b = trial::pick_try(e, b);
+    }
+    b
+}
+
+fn cell_from(t: Tried, faces: usize) -> Cell
+    requires { ⌜ Good 3 7 (t .face) ⌝ }
+    ensures { λ r. ⌜ r ≡ cellFrom t faces ⌝ }
+{
+    let active = order::marks(t.face);
+    let x = t.x;
+    Cell {
+        some: t.some,
+        objective: t.objective,
+        x: x,
+        active: active,
+        faces: faces,
+    }
+}
+
+// The empty face where it qualifies, else the best of all.
+fn chosen(
+    base: &[f64; 36],
+    right: &[f64; 6],
+    g: &[f64; 21],
+    h: &[f64; 7],
+    ys: &[f64; 256],
+    hs: &[f64; 256],
+    ws: &[f64],
+    ts: &[f64],
+    k: Model,
+    pivot: f64,
+    slack: f64,
+) -> Cell
+    requires { ⌜ Ordered (k .u) (k .n) (k .faces) × (length (now ws) ≤ 256) × (length (now ts) ≡ length (now ws)) ⌝ }
+    ensures { λ r. ⌜ r ≡ chosenOf (objectiveAt (now (ys .entry)) (now (hs .entry)) (now (ws .entry)) (now (ts .entry))) (problem (k .u) (k .n) (now (base .entry)) (now (right .entry)) (now (g .entry)) (now (h .entry)) pivot slack) (k .faces) ⌝ }
+{
+    let f = Face {
+        size: 0,
+        a: 0,
+        b: 0,
+        c: 0,
+    };
+    let e = trial::try_face(base, right, g, h, ys, hs, ws, ts, k, pivot, slack, f);
+    if e.some {
+        return cell_from(e, 1);
+    }
+    let b = best(base, right, g, h, ys, hs, ws, ts, k, pivot, slack);
+    cell_from(b, k.faces)
+}
+
+// A model, with the rows of the observations at hand.
+fn posed(
+    k: Model,
+    ys: &[f64; 256],
+    hs: &[f64; 256],
+    ws: &[f64],
+    ts: &[f64],
+    l: Limits,
+    sigma: f64,
+) -> Cell
+    requires { ⌜ Ordered (k .u) (k .n) (k .faces) × (length (now ws) ≤ 256) × (length (now ts) ≡ length (now ws)) ⌝ }
+    ensures { λ r. ⌜ r ≡ posedOf k (at (now (ys .entry))) (at (now (hs .entry))) (now (ws .entry)) (now (ts .entry)) l sigma ⌝ }
+{
+    let n = least::normal_sum(ys, hs, ws, ts);
+    let base = least::base_of(n);
+    let right = least::right_of(n);
+    let g = polytope::rows();
+    let h = polytope::bounds(sigma, l.a_min, l.a_max);
+    let slack = l.feasibility_tolerance * polytope::spread(&h);
+    chosen(
+        &base,
+        &right,
+        &g,
+        &h,
+        ys,
+        hs,
+        ws,
+        ts,
+        k,
+        l.pivot_tolerance,
+        slack,
+    )
+}
+
+// The cell (m, sigma) of a model: y and its hypotenuse with 1 are worked out once for each observation.
+fn cell_at(k: Model, ks: &[f64], ws: &[f64], ts: &[f64], l: Limits, m: f64, sigma: f64) -> Cell
+    requires { ⌜ Ordered (k .u) (k .n) (k .faces) × (length (now ks) ≤ 256) × (length (now ws) ≡ length (now ks)) × (length (now ts) ≡ length (now ks)) ⌝ }
+    ensures { λ r. ⌜ r ≡ cellOf k (now (ks .entry)) (now (ws .entry)) (now (ts .entry)) l m sigma ⌝ }
+{
+    let ys = least::ys_of(ks, m, sigma);
+    let hs = least::hs_of(&ys, ks.len());
+    posed(k, &ys, &hs, ws, ts, l, sigma)
+}
+
+// The cell of the fit. Over 256 observations, or not as many w or weights as k, give no face, and none is tried.
+pub fn inner(ks: &[f64], ws: &[f64], ts: &[f64], l: Limits, m: f64, sigma: f64) -> Cell
+    ensures { λ r. ⌜ r ≡ innerOf (now (ks .entry)) (now (ws .entry)) (now (ts .entry)) l m sigma ⌝ }
+{
+    if (ks.len() <= 256) & ((ws.len() == ks.len()) & (ts.len() == ks.len())) {
+        return cell_at(
+            Model {
+                u: 3,
+                n: 7,
+                faces: 64,
+            },
+            ks,
+            ws,
+            ts,
+            l,
+            m,
+            sigma,
+        );
+    }
+    Cell {
+        some: false,
+        objective: 0.0,
+        x: [0.0; 3],
+        active: [false; 7],
+        faces: 0,
+    }
+}

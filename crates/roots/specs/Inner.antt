@@ -1,0 +1,16 @@
+-- Words of the contracts inside this crate. Nothing here has to be believed: the contracts of `sqrt` and `hypot` do not use them.
+use Prim.Native.Nat.{ℕ, suc, _+_, _*_, _≤_, _<_}
+use mathlib.Core.Path.{_≡_}
+use Rattle.roots.specs.Root.{sq}
+
+-- a whole root and what is left over, as code has it
+pub record RootPair (n q r : ℕ) : Type 0 where
+  pub sum : sq q + r ≡ n
+  pub small : r ≤ 2 * q
+
+-- q² p ≤ n < (q + 1)² p, and `more` is 0 exactly where the first is an equation
+pub record Between (n p q more : ℕ) : Type 0 where
+  pub low : sq q * p ≤ n
+  pub high : n < sq (suc q) * p
+  pub exact : more ≡ 0 → sq q * p ≡ n
+  pub above : 0 < more → sq q * p < n

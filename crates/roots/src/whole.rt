@@ -1,0 +1,164 @@
+// Whole roots: of one limb digit by digit, and of two limbs from a guess by floats that is checked exactly.
+ghost use Prim.Native.Nat.{_+_, _*_, _^_, _≤_, _<_, suc};
+ghost use Rattle.roots.specs.Root.{sq};
+ghost use Rattle.roots.specs.Inner.{RootPair, Between};
+use crate::wide::cut_off;
+use crate::wide::square;
+
+// A whole root and what is left: n = root * root + rem.
+pub(crate) struct Root {
+    pub(crate) root: u64,
+    pub(crate) rem: u64,
+}
+
+// The root of a number that has the base-4 digits of `s`'s number and then the `pairs` digits of `word`, highest first.
+fn digits(s: Root, word: u64, pairs: u64) -> Root
+    requires { ⌜ (s .rem ≤ 2 * s .root) × (suc (s .root) * 2 ^ pairs ≤ 2 ^ 60) × (word < 2 ^ (pairs * 2)) × (pairs ≤ 32) ⌝ }
+    ensures { λ r. ⌜ RootPair ((sq (s .root) + s .rem) * 2 ^ (pairs * 2) + word) (r .root) (r .rem) ⌝ }
+{
+    let mut root = s.root;
+    let mut rem = s.rem;
+    let mut left = pairs;
+    while 0 < left {
+        left -= 1;
+        let next = rem * 4 + (word >> (left * 2)) % 4;
+        let trial = root * 4 + 1;
+        if next < trial {
+            root = root * 2;
+            rem = next;
+        } else {
+            root = root * 2 + 1;
+            rem = next - trial;
+        }
+    }
+    Root { root, rem }
+}
+
+// A guess at the root of w * 2 ^ 52, for w = m * (odd + 1): by floats, and nothing is said of it but its size.
+fn guess(m: u64, odd: u64) -> u64
+    requires { ⌜ (2 ^ 52 ≤ m) × (m < 2 ^ 53) × (odd < 2) ⌝ }
+    ensures { λ r. ⌜ r < 2 ^ 54 ⌝ }
+{
+    let b = (odd + 1022) * 4503599627370496 + m;
+    let x = f64::from_bits(b);
+    let half = 0.5 * x;
+    let r0 = f64::from_bits(6910469410427058089 - b / 2);
+    let r1 = r0 * (1.5 - half * r0 * r0);
+    let r2 = r1 * (1.5 - half * r1 * r1);
+    let r3 = r2 * (1.5 - half * r2 * r2);
+    let s = x * r3;
+    let y = s + 0.5 * r3 * (x - s * s);
+    if y != y {
+        return 0;
+    }
+    let c = f64::to_bits(y);
+    if c < 4602678819172646912 {
+        return 0;
+    }
+    let g = c - 4602678819172646912;
+    if 18014398509481984 <= g {
+        return 0;
+    }
+    g
+}
+
+// From a number g and what is left of n = g * g + r, up to the whole root of n.
+fn climb(g: u64, r: u64) -> Root
+    requires { ⌜ (g < 2 ^ 55) × (r < 2 ^ 62) ⌝ }
+    ensures { λ s. ⌜ RootPair (sq g + r) (s .root) (s .rem) ⌝ }
+{
+    let mut root = g;
+    let mut rem = r;
+    while 2 * root < rem {
+        rem -= 2 * root + 1;
+        root += 1;
+    }
+    Root { root, rem }
+}
+
+// The whole root of hi * 2 ^ 54 + lo, digit by digit.
+fn slow_wide_root(hi: u64, lo: u64) -> Root
+    requires { ⌜ (hi < 2 ^ 56) × (lo < 2 ^ 54) ⌝ }
+    ensures { λ r. ⌜ RootPair (hi * 2 ^ 54 + lo) (r .root) (r .rem) ⌝ }
+{
+    let high = digits(Root { root: 0, rem: 0 }, hi, 28);
+    digits(high, lo, 27)
+}
+
+// A guess at the root of hi * 2 ^ 54, a little too small, or 0 for none.
+fn wide_guess(hi: u64) -> u64
+    ensures { λ r. ⌜ r < 2 ^ 55 ⌝ }
+{
+    if hi < 4503599627370496 {
+        return 0;
+    }
+    if hi < 9007199254740992 {
+        return less(2 * guess(hi, 0), 2);
+    }
+    if hi < 18014398509481984 {
+        return less(2 * guess(hi / 2, 1), 2);
+    }
+    if hi < 36028797018963968 {
+        let g = guess(hi / 4, 0);
+        if g < 9007199254740992 {
+            return less(4 * g, 4);
+        }
+    }
+    0
+}
+
+fn less(g: u64, by: u64) -> u64
+    ensures { λ r. ⌜ r ≤ g ⌝ }
+{
+    if g < by { 0 } else { g - by }
+}
+
+// The whole root of hi * 2 ^ 54 + lo: from a guess that is not too large, upward, else digit by digit.
+pub(crate) fn wide_root(hi: u64, lo: u64) -> Root
+    requires { ⌜ (hi < 2 ^ 56) × (lo < 2 ^ 54) ⌝ }
+    ensures { λ r. ⌜ RootPair (hi * 2 ^ 54 + lo) (r .root) (r .rem) ⌝ }
+{
+    let g = wide_guess(hi);
+    let s = square(g);
+    let high = s.hi;
+    let low = s.lo;
+    if g == 0 {
+        return slow_wide_root(hi, lo);
+    }
+    if hi < high {
+        return slow_wide_root(hi, lo);
+    }
+    let d = hi - high;
+    if 255 < d {
+        return slow_wide_root(hi, lo);
+    }
+    if d * 18014398509481984 + lo < low {
+        return slow_wide_root(hi, lo);
+    }
+    climb(g, d * 18014398509481984 + lo - low)
+}
+
+// A whole root, and a number that is 0 where it is exact.
+pub(crate) struct Near {
+    pub(crate) root: u64,
+    pub(crate) more: u64,
+}
+
+// The whole root of (a * 2 ^ d) ^ 2 + b ^ 2, less its last d digits.
+pub(crate) fn near_root(a: u64, b: u64, d: u64) -> Near
+    requires { ⌜ (a < 2 ^ 54) × (b < 2 ^ 54) × (d ≤ 26) ⌝ }
+    ensures { λ r. ⌜ (r .root < 2 ^ 55) × Between (sq a * 2 ^ (d * 2) + sq b) (2 ^ (d * 2)) (r .root) (r .more) ⌝ }
+{
+    let x = square(a);
+    let y = square(b);
+    let z = cut_off(y.hi, y.lo, d * 2);
+    let low = x.lo + z.lo;
+    let r = wide_root(
+        x.hi + z.hi + low / 18014398509481984,
+        low % 18014398509481984,
+    );
+    Near {
+        root: r.root,
+        more: r.rem + z.off,
+    }
+}

@@ -1,0 +1,2 @@
+-- M6 of the marked examples.
+pub mod Marked

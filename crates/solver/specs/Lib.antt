@@ -1,0 +1,2 @@
+-- What the solver's contracts cite.
+pub mod Solve

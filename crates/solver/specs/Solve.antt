@@ -1,0 +1,125 @@
+-- `solve_linear` of calibrate.rs: Gaussian elimination with partial pivoting on the first n rows and columns of a 6 by 6 matrix, row by row in one list,
+-- and the substitution back. Every operation is rounded once, in the order written. Definitions only.
+use mathlib.Core.Bool.{Bool, true, false, _||_, cond}
+use mathlib.Core.List.{List}
+use Prim.Native.Nat.{ℕ, _+_, _-_, _*_}
+use lib.Dec.{leb}
+use lib.ListN.{set, replicate}
+use lib.Ieee.{Float, lt, le, eq, isNan}
+use Rattle.laws.specs.Loop.{for}
+use Rattle.laws.specs.Choice.{unless}
+use Rattle.laws.specs.Floats.{_+f_, _-f_, _*f_, _/f_, +0, at, absOf, finite, positive, maxOf}
+use Rattle.solver.specs.declared.Solved.{Solved}
+
+-- a system under elimination: whether it still stands, its matrix and its right side
+pub record System : Type 0 where
+  pub ok : Bool
+  pub m : List Float
+  pub rhs : List Float
+
+abbrev pub after : Bool → List Float → List Float → System
+after ok m rhs = record { ok = ok; m = m; rhs = rhs }
+
+abbrev pub standing : List Float → List Float → System
+standing m rhs = after true m rhs
+
+-- the entry in row i and column j
+abbrev pub entry : List Float → ℕ → ℕ → Float
+entry m i j = at m (i * 6 + j)
+
+-- no solution
+abbrev pub refused : Solved
+refused = record { ok = false; x = replicate 6 +0 }
+
+-- ---- the scale: the largest magnitude of all entries, row by row, +0 to begin with
+
+unfoldable pub rowScaleOf : ℕ → List Float → ℕ → Float → Float
+rowScaleOf n m i acc = for 0 n (λ j acc. maxOf acc (absOf (entry m i j))) acc
+
+unfoldable pub scaleOf : ℕ → List Float → Float
+scaleOf n m = for 0 n (λ i acc. rowScaleOf n m i acc) +0
+
+-- ---- the pivot
+
+-- of two magnitudes, a is at most b; a NaN is above all
+unfoldable pub ranked : Float → Float → Bool
+ranked a b = isNan b || le a b
+
+-- the row from col on that has the largest magnitude in column col: the LAST of equal ones
+unfoldable pub pivotRowOf : ℕ → List Float → ℕ → ℕ
+pivotRowOf n m col = for (col + 1) n (λ i p. cond (ranked (absOf (entry m p col)) (absOf (entry m i col))) i p) col
+
+abbrev pub exchange : List Float → ℕ → ℕ → List Float
+exchange l a b = set (set l a (at l b)) b (at l a)
+
+-- rows a and b change places
+unfoldable pub swapRows : List Float → ℕ → ℕ → List Float
+swapRows m a b = for 0 6 (λ j m. exchange m (a * 6 + j) (b * 6 + j)) m
+
+abbrev pub swapped : System → ℕ → ℕ → System
+swapped s a b = after (s .ok) (swapRows (s .m) a b) (exchange (s .rhs) a b)
+
+-- ---- the elimination
+
+-- a copy of row i: `pivot_values`
+abbrev pub rowOf : List Float → ℕ → List Float
+rowOf m i = for 0 6 (λ j p. set p j (entry m i j)) (replicate 6 +0)
+
+-- from column col on, the row less the factor times the pivot values
+unfoldable pub minusOf : ℕ → ℕ → List Float → ℕ → Float → List Float → List Float
+minusOf n col values row factor m = for col n (λ j m. set m (row * 6 + j) (entry m row j -f factor *f at values j)) m
+
+-- the row's entry over the pivot
+abbrev pub factorOf : ℕ → List Float → ℕ → List Float → Float
+factorOf col values row m = entry m row col /f at values col
+
+-- a row and its right side; one whose factor is a zero is left as it is
+unfoldable pub rowDone : ℕ → ℕ → List Float → ℕ → Float → System → System
+rowDone n col values row factor s =
+    cond (eq factor +0) s
+    (after (s .ok) (minusOf n col values row factor (s .m)) (set (s .rhs) row (at (s .rhs) row -f factor *f at (s .rhs) col)))
+
+-- the rows below col
+unfoldable pub belowOf : ℕ → ℕ → List Float → System → System
+belowOf n col values s = for (col + 1) n (λ row s. rowDone n col values row (factorOf col values row (s .m)) s) s
+
+-- a pivot, in row p, of at most the limit refuses; a NaN is not at most anything, so it passes
+unfoldable pub pivoted : ℕ → Float → ℕ → ℕ → System → System
+pivoted n limit col p s =
+    cond (le (absOf (entry (s .m) p col)) limit) (after false (s .m) (s .rhs))
+    (belowOf n col (rowOf (swapRows (s .m) col p) col) (swapped s col p))
+
+-- one column; a refused system is passed on
+unfoldable pub columnOf : ℕ → Float → ℕ → System → System
+columnOf n limit col s = cond (s .ok) (pivoted n limit col (pivotRowOf n (s .m) col) s) s
+
+unfoldable pub eliminatedOf : ℕ → Float → System → System
+eliminatedOf n limit s = for 0 n (λ col s. columnOf n limit col s) s
+
+-- ---- the substitution back, from the last row up
+
+-- the sum of the row's products right of the diagonal, from the left, +0 to begin with
+unfoldable pub tailOf : ℕ → List Float → List Float → ℕ → Float
+tailOf n m x row = for (row + 1) n (λ j tail. tail +f entry m row j *f at x j) +0
+
+-- a value that is not finite refuses
+unfoldable pub placed : ℕ → Float → Solved → Solved
+placed row value t = unless (finite value) refused (record { ok = true; x = set (t .x) row value })
+
+unfoldable pub backRowOf : ℕ → List Float → List Float → ℕ → Solved → Solved
+backRowOf n m rhs row t = cond (t .ok) (placed row ((at rhs row -f tailOf n m (t .x) row) /f entry m row row) t) t
+
+unfoldable pub backOf : ℕ → List Float → List Float → Solved
+backOf n m rhs = for 0 n (λ k t. backRowOf n m rhs (n - 1 - k) t) (record { ok = true; x = replicate 6 +0 })
+
+-- ---- the whole
+
+unfoldable pub backIf : ℕ → System → Solved
+backIf n s = unless (s .ok) refused (backOf n (s .m) (s .rhs))
+
+unfoldable pub scaledOf : ℕ → List Float → List Float → Float → Float → Solved
+scaledOf n m rhs tol scale = unless (positive scale) refused (backIf n (eliminatedOf n (tol *f scale) (standing m rhs)))
+
+-- m x = rhs in n unknowns; a size above 6 is refused, and so is 0, whose scale is no positive one
+unfoldable pub solveOf : ℕ → List Float → List Float → Float → Solved
+solveOf n m rhs tol = unless (leb n 6) refused (scaledOf n m rhs tol (scaleOf n m))

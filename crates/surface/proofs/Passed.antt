@@ -1,0 +1,40 @@
+-- What a passed test says of a run, and what a bracket says of its positions. Assumes nothing.
+use mathlib.Core.Path.{_≡_, refl, sym, _∙_, subst}
+use mathlib.Core.Bool.{Bool, true, false, _||_, cond}
+use mathlib.Core.List.{List}
+use Prim.Native.Nat.{ℕ, _≤_, _<_}
+use native.Mathlib.Omega.{arith}
+use lib.Dec.{ltb, eqb}
+use lib.Ieee.{Float}
+use lib.ListN.{length}
+use borrow.Author.Tests.{ltb-false}
+use Rattle.laws.proofs.Choices.{passed-number}
+use Rattle.surface.specs.declared.types.Run.{Run}
+use Rattle.surface.specs.declared.types.Bracket.{Bracket}
+use Rattle.surface.specs.declared.types.Bracket.the-variants.{Segment, Short, Refused}
+use Rattle.surface.specs.Runs.{checkRun}
+use Rattle.surface.specs.Axis.{gridNumber}
+use Rattle.surface.specs.Surface.{entryNumber}
+use Rattle.surface.specs.Inner.{Inside}
+
+-- the positions of a segment
+pub places : (b : Bracket) {lo hi : ℕ} {x : Float} → b ≡ Segment lo hi x → Inside b → (lo < 32) × (hi < 32)
+places b e i = subst Inside e i
+
+few-by : (n m : ℕ) (b : Bool) → ltb 32 n ≡ b → cond b 11 m ≡ 0 → n ≤ 32
+few-by n m true e h = absurd (omega (arith, h))
+few-by n m false e h = ltb-false 32 n e
+
+-- a run that passes has at most 32 records
+few : (run : Run) → checkRun run ≡ 0 → run .count ≤ 32
+unfolding checkRun
+few run z = few-by (run .count) _ (ltb 32 (run .count)) refl z
+
+no-refusal : (b : Bool) (m : ℕ) → cond b 11 m ≡ 0 → m ≡ 0
+no-refusal true m h = absurd (omega (arith, h))
+no-refusal false m h = h
+
+-- so has one that passes beside two axes
+pub entry-few : (run : Run) (k tau : List Float) {r : ℕ} → r ≡ entryNumber run k tau → r ≡ 0 → run .count ≤ 32
+unfolding entryNumber
+entry-few run k tau {r} e z = few run (passed-number (checkRun run) (gridNumber k tau) (no-refusal (ltb 64 (length k) || ltb 64 (length tau)) _ (sym e ∙ z)) .0)

@@ -1,0 +1,28 @@
+-- `surface::answers::region_run` meets its contract. Assumes nothing.
+use Rattle.surface.specs.Surface.{regionRun, bracketIn}
+use Rattle.laws.proofs.Choices.{number-goes, number-no}
+use mathlib.Core.Path.{_≡_, ap, _∙_}
+use Rattle.surface.specs.declared.types.Region.the-variants as region
+use borrow.Author.Needs.{needs}
+use Rattle.surface.proofs.answers.region_run.Statement.{statement}
+use Rattle.surface.proofs.answers.region_run.Tie as tie
+
+returns : tie.Need-returns
+unfolding regionRun bracketIn
+returns c = number-goes _ (c .before .before .before .before .before .before .before .before .before .check-run .ensures) (c .before .before .before .before .before .before .before .before .if1 .taken) (cc (c .region-in .ensures, c .before .bracket-at .ensures .0, c .before .before .before .before .tolerances .ensures, c .before .before .before .before .before .before .taus-of .ensures))
+
+returns-2 : tie.Need-returns-2
+unfolding regionRun
+returns-2 c = number-no _ region.Refused (c .before .check-run .ensures) (c .if1 .left)
+
+pub region-run-spec : {M : Type 1} → statement M
+region-run-spec =
+    tie.close
+    (tie.spec
+    (λ c κs. search needs)
+    (λ c κs. search needs)
+    (λ c κs. search needs)
+    (λ c κs. search needs)
+    (λ c κs. search needs)
+    returns
+    returns-2)

@@ -1,0 +1,17 @@
+-- `surface::answers::short_at` meets its contract. Assumes nothing.
+use Rattle.surface.specs.Surface.{firstOf}
+use borrow.Author.Needs.{needs}
+use Rattle.surface.proofs.answers.short_at.Statement.{statement}
+use Rattle.surface.proofs.answers.short_at.Tie as tie
+
+returns : tie.Need-returns
+unfolding firstOf
+returns c = cc
+
+pub short-at-spec : {M : Type 1} → statement M
+short-at-spec =
+    tie.close
+    (tie.spec
+    (λ c κs. search needs)
+    (λ c κs. search needs)
+    returns)

@@ -1,0 +1,27 @@
+-- `surface::answers::total_variance_run` meets its contract. Assumes nothing.
+use Rattle.surface.specs.Surface.{totalRun}
+use Rattle.laws.proofs.Choices.{number-goes, number-no}
+use mathlib.Core.Path.{_≡_, ap, _∙_}
+use Rattle.point.specs.declared.Total.the-variants as total
+use borrow.Author.Needs.{needs}
+use Rattle.surface.proofs.answers.total_variance_run.Statement.{statement}
+use Rattle.surface.proofs.answers.total_variance_run.Tie as tie
+
+returns : tie.Need-returns
+unfolding totalRun
+returns c = number-goes _ (c .before .before .before .before .before .before .before .before .check-run .ensures) (c .before .before .before .before .before .before .before .if1 .taken) (cc (c .variance-at .ensures, c .before .before .before .tolerances .ensures, c .before .before .before .before .before .taus-of .ensures))
+
+returns-2 : tie.Need-returns-2
+unfolding totalRun
+returns-2 c = number-no _ total.Refused (c .before .check-run .ensures) (c .if1 .left)
+
+pub total-variance-run-spec : {M : Type 1} → statement M
+total-variance-run-spec =
+    tie.close
+    (tie.spec
+    (λ c κs. search needs)
+    (λ c κs. search needs)
+    (λ c κs. search needs)
+    (λ c κs. search needs)
+    returns
+    returns-2)

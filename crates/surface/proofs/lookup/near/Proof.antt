@@ -1,0 +1,16 @@
+-- `surface::lookup::near` meets its contract. Assumes nothing.
+use Rattle.surface.specs.Lookup.{nearOf}
+use borrow.Author.Needs.{needs}
+use Rattle.surface.proofs.lookup.near.Statement.{statement}
+use Rattle.surface.proofs.lookup.near.Tie as tie
+
+returns : tie.Need-returns
+unfolding nearOf
+returns c = cc
+
+pub near-spec : {M : Type 1} → statement M
+near-spec =
+    tie.close
+    (tie.spec
+    (λ c κs. search needs)
+    returns)

@@ -1,0 +1,19 @@
+-- `surface::lookup::tolerance_at` meets its contract. Assumes nothing.
+use Rattle.surface.specs.Lookup.{toleranceOf}
+use borrow.Author.Needs.{needs}
+use Rattle.surface.proofs.lookup.tolerance_at.Statement.{statement}
+use Rattle.surface.proofs.lookup.tolerance_at.Tie as tie
+
+returns : tie.Need-returns
+unfolding toleranceOf
+returns c = cc
+
+pub tolerance-at-spec : {M : Type 1} → statement M
+tolerance-at-spec =
+    tie.close
+    (tie.spec
+    (λ c. search needs)
+    (λ c. search needs)
+    (λ c κs. search needs)
+    (λ c κs. search needs)
+    returns)

@@ -1,0 +1,6 @@
+-- A surface, in reading order: the run of records and its tests, the lookup of a tau, the axes of a grid, the answers.
+pub mod Runs
+pub mod Lookup
+pub mod Axis
+pub mod Surface
+pub mod Inner
