@@ -134,7 +134,7 @@ config-from s o zero l e = refl
 config-from s o (suc zero) l e = settings-same (λ i. u64At o (4 + 8 * i)) (λ i. u64At s (4 + 8 * i)) e
 config-from s o (suc (suc v)) l e = absurd (omega arith)
 
-sizes-same : (m n : ℕ) (c : FitConfig) → m ≤ 256 → n ≤ 256 → sizesHold m c ≡ sizesHold n c
+pub sizes-same : (m n : ℕ) (c : FitConfig) → m ≤ 256 → n ≤ 256 → sizesHold m c ≡ sizesHold n c
 unfolding sizesHold
 sizes-same m n c h k = rw (le-leb m 256 h, le-leb n 256 k)
 

@@ -7,7 +7,7 @@ ghost use Prim.Native.Nat.{_+_, _*_, _≤_, _<_};
 ghost use lib.Dec.{leb};
 ghost use lib.ListN.{length};
 ghost use Rattle.laws.specs.Room.{atFront, written};
-ghost use Rattle.calibrate.specs.Entry.{passes as passesOf, sizesHold};
+ghost use Rattle.calibrate.specs.Entry.{sizesHold};
 ghost use Rattle.house.specs.File.{houseOf, f64At, tauOf, settingsAt, configOf, quoteAt, quotes};
 ghost use Rattle.house.specs.Check.{kOf, wOf, weightOf, quotePasses, allPass};
 ghost use Rattle.house.specs.Repeats.{sameQuote, among, kept};
@@ -127,19 +127,10 @@ fn quote_at(s: &[u8], at: usize) -> Quote
     }
 }
 
-fn passes(k: f64, w: f64, weight: f64) -> bool
-    ensures { λ r. ⌜ r ≡ passesOf k w weight ⌝ }
-{
-    bits::is_finite(k)
-        & bits::is_finite(w)
-        & (0.0 <= w)
-        & (bits::is_finite(weight) & (0.0 < weight))
-}
-
 fn quote_passes(q: Quote) -> bool
     ensures { λ r. ⌜ r ≡ quotePasses q ⌝ }
 {
-    passes(bits::f64_of(q.k), bits::f64_of(q.w), bits::f64_of(q.weight))
+    calibrate::passes(bits::f64_of(q.k), bits::f64_of(q.w), bits::f64_of(q.weight))
 }
 
 // Whether each of n records passes check 10.
