@@ -2,3 +2,4 @@ pub mod Fronts
 pub mod Fits
 pub mod Saying
 pub mod RepeatsDoNotShow
+pub mod OneOfTheForms

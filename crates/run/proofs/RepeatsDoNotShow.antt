@@ -87,7 +87,7 @@ not-43 s v n =
     (λ h. omega arith))
     (λ h. omega arith)
 
-kept-small : (s : List ℕ) (v n : ℕ) → File v n ≡ houseOf s → length (keptOf s) ≤ 256
+pub kept-small : (s : List ℕ) (v n : ℕ) → File v n ≡ houseOf s → length (keptOf s) ≤ 256
 kept-small s v n e =
     omega (arith, ap length (kept-file s v n e), kept-short (recordsAt s v n), quotes-length s (20 + 88 * v) n, file-is s v n e .1)
 
