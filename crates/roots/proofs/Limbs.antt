@@ -1,7 +1,7 @@
 -- Numbers of two limbs, hi * 2 ^ 54 + lo: a square, a part cut off, and the whole root of a sum. Assumes nothing.
 use mathlib.Core.Path.{_≡_, sym, ap, _∙_}
 use Prim.Native.Nat.{ℕ, zero, suc, _+_, _-_, _*_, _/_, _%_, _^_, _≤_, _<_}
-use native.Mathlib.Nat.{mul-le-mul-left, mul-le-mul-right, mod-eq-of-lt, mod-lt, div-mul-le-self, div-add-mod', div-lt-iff-lt-mul, lt-of-lt-of-le}
+use native.Mathlib.Nat.{le-trans, mul-le-mul-left, mul-le-mul-right, mod-eq-of-lt, mod-lt, div-mul-le-self, div-add-mod', div-lt-iff-lt-mul, lt-of-lt-of-le}
 use native.Mathlib.Omega.{arith}
 use lib.Pow.{pow-pos, pow-add, pow-mono}
 use Rattle.laws.proofs.Comparing.{product-lt}
@@ -112,3 +112,17 @@ module _ (xh xl zh zl off p sa sb q r : ℕ)
 
 pub off-small : (off d : ℕ) → off < 2 ^ (d * 2) → d ≤ 26 → off < 2 ^ 52
 off-small off d h k = lt-of-lt-of-le h (pow-mono (let l : d * 2 ≤ 52 = omega arith in l))
+
+-- ---- a step from g by c, the rest over 2g + 64
+
+module _ (g r : ℕ) (few : r / (2 * g + 64) ≤ 64) where
+  pub step-le : r / (2 * g + 64) * (2 * g + r / (2 * g + 64)) ≤ r
+  step-le =
+      let c = r / (2 * g + 64) in
+      le-trans (mul-le-mul-left c (let l : 2 * g + c ≤ 2 * g + 64 = omega arith in l)) (div-mul-le-self r (2 * g + 64))
+
+  pub step-sum : sq (g + r / (2 * g + 64)) + (r - r / (2 * g + 64) * (2 * g + r / (2 * g + 64))) ≡ sq g + r
+  step-sum = go (r / (2 * g + 64)) step-le
+    where
+      go : (c : ℕ) → c * (2 * g + c) ≤ r → sq (g + c) + (r - c * (2 * g + c)) ≡ sq g + r
+      go c h = omega arith
