@@ -1,7 +1,7 @@
 -- Numbers of two limbs, hi * 2 ^ 54 + lo: a square, a part cut off, and the whole root of a sum. Assumes nothing.
 use mathlib.Core.Path.{_≡_, sym, ap, _∙_}
 use Prim.Native.Nat.{ℕ, zero, suc, _+_, _-_, _*_, _/_, _%_, _^_, _≤_, _<_}
-use native.Mathlib.Nat.{le-trans, mul-le-mul-left, mul-le-mul-right, mod-eq-of-lt, mod-lt, div-mul-le-self, div-add-mod', div-lt-iff-lt-mul, lt-of-lt-of-le}
+use native.Mathlib.Nat.{mul-le-mul-left, mul-le-mul-right, mod-eq-of-lt, mod-lt, div-mul-le-self, div-add-mod', div-lt-iff-lt-mul, lt-of-lt-of-le}
 use native.Mathlib.Omega.{arith}
 use lib.Pow.{pow-pos, pow-add, pow-mono}
 use Rattle.laws.proofs.Comparing.{product-lt}
@@ -113,16 +113,22 @@ module _ (xh xl zh zl off p sa sb q r : ℕ)
 pub off-small : (off d : ℕ) → off < 2 ^ (d * 2) → d ≤ 26 → off < 2 ^ 52
 off-small off d h k = lt-of-lt-of-le h (pow-mono (let l : d * 2 ≤ 52 = omega arith in l))
 
--- ---- a step from g by c, the rest over 2g + 64
+-- ---- a step from g by c, which is a little less than the rest over 2g
 
-module _ (g r : ℕ) (few : r / (2 * g + 64) ≤ 64) where
-  pub step-le : r / (2 * g + 64) * (2 * g + r / (2 * g + 64)) ≤ r
-  step-le =
-      let c = r / (2 * g + 64) in
-      le-trans (mul-le-mul-left c (let l : 2 * g + c ≤ 2 * g + 64 = omega arith in l)) (div-mul-le-self r (2 * g + 64))
+abbrev pub step : ℕ → ℕ → ℕ
+step g r = r / 2 ^ 40 / (g / 2 ^ 39 + 2)
 
-  pub step-sum : sq (g + r / (2 * g + 64)) + (r - r / (2 * g + 64) * (2 * g + r / (2 * g + 64))) ≡ sq g + r
-  step-sum = go (r / (2 * g + 64)) step-le
+module _ (g r : ℕ) (few : step g r ≤ 64) where
+  pub step-le : step g r * (2 * g + step g r) ≤ r
+  step-le = go (step g r) few (div-mul-le-self (r / 2 ^ 40) (g / 2 ^ 39 + 2))
+    where
+      go : (c : ℕ) → c ≤ 64 → c * (g / 2 ^ 39 + 2) ≤ r / 2 ^ 40 → c * (2 * g + c) ≤ r
+      go c k h =
+          let b : 2 * g + c ≤ (g / 2 ^ 39 + 2) * 2 ^ 40 = omega arith in
+          omega (arith, mul-le-mul-left c b)
+
+  pub step-sum : sq (g + step g r) + (r - step g r * (2 * g + step g r)) ≡ sq g + r
+  step-sum = go (step g r) step-le
     where
       go : (c : ℕ) → c * (2 * g + c) ≤ r → sq (g + c) + (r - c * (2 * g + c)) ≡ sq g + r
       go c h = omega arith

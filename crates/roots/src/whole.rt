@@ -43,11 +43,12 @@ fn guess(hi: u64) -> u64
     let x = (hi / 8) as f64;
     let half = 0.5 * x;
     let r0 = f64::from_bits(6910469410427058089 - f64::to_bits(x) % 9223372036854775808 / 2);
-    let r1 = r0 * (1.5 - half * r0 * r0);
-    let r2 = r1 * (1.5 - half * r1 * r1);
-    let r3 = r2 * (1.5 - half * r2 * r2);
+    let r1 = 1.5 * r0 - half * r0 * (r0 * r0);
+    let r2 = 1.5 * r1 - half * r1 * (r1 * r1);
+    let r3 = 1.5 * r2 - half * r2 * (r2 * r2);
     let s = x * r3;
-    let y = (s + 0.5 * r3 * (x - s * s)) * 379625062.497006236 + 36028797018963952.0;
+    let y = (s * 379625062.497006236 + 36028797018963952.0)
+        + r3 * 189812531.248503118 * (x - s * s);
     if y != y {
         return 0;
     }
@@ -77,7 +78,7 @@ fn slow_wide_root(hi: u64, lo: u64) -> Root
     digits(high, lo, 27)
 }
 
-// The whole root of hi * 2 ^ 54 + lo: from a guess that is not too large, at once by a division to the root or the number below it, and upward; else digit by digit.
+// The whole root of hi * 2 ^ 54 + lo: from a guess that is not too large, almost there at once by a short division, and upward; else digit by digit.
 pub(crate) fn wide_root(hi: u64, lo: u64) -> Root
     requires { ⌜ (hi < 2 ^ 56) × (lo < 2 ^ 54) ⌝ }
     ensures { λ r. ⌜ RootPair (hi * 2 ^ 54 + lo) (r .root) (r .rem) ⌝ }
@@ -98,7 +99,7 @@ pub(crate) fn wide_root(hi: u64, lo: u64) -> Root
         return slow_wide_root(hi, lo);
     }
     let rem = over - low;
-    let c = rem / (2 * g + 64);
+    let c = (rem >> 40) / ((g >> 39) + 2);
     if 64 < c {
         return slow_wide_root(hi, lo);
     }

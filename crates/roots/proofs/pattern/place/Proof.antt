@@ -1,6 +1,5 @@
 -- `roots::pattern::place` meets its contract: `placed`, the law of rounding in proofs/Rounding.antt. Assumes nothing.
 use native.Mathlib.Omega.{arith}
-use lib.Dec.{lit<}
 use Rattle.roots.proofs.Rounding.{one-most, least-most, which-fits, placed}
 use borrow.Author.Needs.{needs}
 use Rattle.roots.proofs.pattern.place.Statement.{statement}

@@ -45,9 +45,6 @@ slow-wide-root-requires-3 c κs = search needs
 returns-3 : tie.Need-returns-3
 returns-3 c = search needs
 
-mul-c : tie.Need-mul-c
-mul-c c = search needs
-
 add-c : tie.Need-add-c
 add-c c = search needs
 
@@ -97,7 +94,6 @@ wide-root-spec =
     add-over
     slow-wide-root-requires-3
     returns-3
-    mul-c
     add-c
     div-c
     slow-wide-root-requires-4
