@@ -1,0 +1,2 @@
+// What C and Rust link: nothing but calls, each with the contract of the function that it calls.
+pub mod solve; // solve.rt: the solver, one cell of the search
