@@ -1,0 +1,9 @@
+pub mod Sums
+pub mod Turns
+pub mod Passes
+pub mod Trail
+pub mod Least
+pub mod Chosen
+pub mod SearchCounts
+pub mod NoBetterFace
+pub mod Marked

@@ -1,0 +1,180 @@
+-- One pass: its counts, that its best is as good as each of its cells, and where that stands. Assumes nothing.
+use mathlib.Core.Path.{_≡_, refl, sym, ap, subst, _∙_}
+use mathlib.Core.Logic.{_⊎_, ⊎-elim}
+use mathlib.Core.Bool.{Bool, true, false, not, _&&_, _||_, cond}
+use Prim.Native.Nat.{ℕ, zero, suc, _+_, _*_, _≤_, _<_}
+use native.Mathlib.Omega.{arith}
+use native.Mathlib.Nat.{not-suc-le-zero, eq-or-lt-of-le, add-mul, one-mul, zero-mul}
+use lib.Dec.{T}
+use lib.Ieee.{Float, lt, le, isNan}
+use Rattle.laws.specs.Loop.{for}
+use Rattle.laws.proofs.Loops.{for-ind, for-keeps}
+use Rattle.laws.proofs.Choices.{cond-ind}
+use Rattle.laws.proofs.Order.{lt-le-trans, lt-not-self, lt-or, lt→le}
+use Rattle.cell.specs.declared.Cell.{Cell}
+use Rattle.cell.specs.Cell.{noCell}
+use Rattle.search.specs.declared.Window.{Window}
+use Rattle.search.specs.declared.PassBest.{PassBest}
+use Rattle.search.specs.Search.{CellFn, better, consider, noBest, rowOf, passOf, cellAt, improves}
+use Rattle.search.proofs.Sums.{sum, sum-none, sum-next}
+
+pub below : (j i : ℕ) → j < i + 1 → (j ≡ i) ⊎ (j < i)
+below j i l = eq-or-lt-of-le (omega arith)
+
+-- what holds below i and at i holds below i + 1
+pub below-next : (P : ℕ → Type 0) (i : ℕ) → ((k : ℕ) → k < i → P k) → P i → (k : ℕ) → k < i + 1 → P k
+below-next P i all here k l = ⊎-elim (λ e. subst P (sym e) here) (all k) (below k i l)
+
+-- ---- the better of two cells
+
+-- b is as good as c: where c has a face, b has one too, and c's objective is not below b's
+pub record AsGood (b c : Cell) : Type 0 where
+  pub has : T (c .some) → T (b .some)
+  pub least : T (c .some) → T (lt (c .objective) (b .objective)) → ⊥
+
+-- a cell with a face has an objective that is no NaN
+abbrev pub Proper : Cell → Type 0
+Proper c = T (c .some) → T (not (isNan (c .objective)))
+
+better-new : (c b : Cell) → AsGood (cond (better c b) c b) c
+better-new c b = go (c .some) (b .some) (lt (c .objective) (b .objective)) refl refl refl
+  where
+    go : (x y z : Bool) → c .some ≡ x → b .some ≡ y → lt (c .objective) (b .objective) ≡ z → AsGood (cond (x && (not y || z)) c b) c
+    go false y z p q r = record { has = λ h. absurd (rw p at h); least = λ h. absurd (rw p at h) }
+    go true false z p q r = record { has = λ h. h; least = λ h. lt-not-self (c .objective) }
+    go true true true p q r = record { has = λ h. h; least = λ h. lt-not-self (c .objective) }
+    go true true false p q r = record { has = λ h. rw q tt; least = λ h k. rw r at k }
+
+better-old : (c b x : Cell) → AsGood b x → AsGood (cond (better c b) c b) x
+better-old c b x g = go (c .some) (b .some) (lt (c .objective) (b .objective)) refl refl refl
+  where
+    go : (u y z : Bool) → c .some ≡ u → b .some ≡ y → lt (c .objective) (b .objective) ≡ z → AsGood (cond (u && (not y || z)) c b) x
+    go false y z p q r = g
+    go true false z p q r = record { has = λ h. rw p tt; least = λ h. absurd (rw q at (g .has h)) }
+    go true true true p q r =
+        record { has = λ h. rw p tt; least = λ h k. g .least h (lt-le-trans (x .objective) (c .objective) (b .objective) k (lt→le _ _ (rw r tt))) }
+    go true true false p q r = g
+
+-- ---- the best of the passes so far, b, and a pass's, c, which wins where its objective is at most b's
+
+pub later-old : (c b x : Cell) → T (c .some) → AsGood b x → AsGood (cond (improves c b) c b) x
+later-old c b x s g = go (b .some) (le (c .objective) (b .objective)) refl refl
+  where
+    go : (y z : Bool) → b .some ≡ y → le (c .objective) (b .objective) ≡ z → AsGood (cond (not y || z) c b) x
+    go false z q r = record { has = λ h. s; least = λ h. absurd (rw q at (g .has h)) }
+    go true true q r = record { has = λ h. s; least = λ h k. g .least h (lt-le-trans (x .objective) (c .objective) (b .objective) k (rw r tt)) }
+    go true false q r = g
+
+pub later-new : (c b x : Cell) → T (c .some) → Proper c → Proper b → AsGood c x → AsGood (cond (improves c b) c b) x
+later-new c b x s p o g = go (b .some) (le (c .objective) (b .objective)) refl refl
+  where
+    go : (y z : Bool) → b .some ≡ y → le (c .objective) (b .objective) ≡ z → AsGood (cond (not y || z) c b) x
+    go false z q r = g
+    go true true q r = g
+    go true false q r =
+        let h : T (b .some) = rw q tt in
+        let l : T (lt (b .objective) (c .objective)) = lt-or (c .objective) (b .objective) (p s) (o h) (rw r tt) in
+        record { has = λ k. h; least = λ k j. g .least k (lt-le-trans (x .objective) (b .objective) (c .objective) j (lt→le _ _ l)) }
+
+-- ---- a row of cells, and the rows
+
+-- the cell c is that of the grid at (i, j)
+pub record Stands (f : CellFn) (w : Window) (n : ℕ) (c : Cell) (i j : ℕ) : Type 0 where
+  pub row : i < n
+  pub column : j < n
+  pub is : c ≡ cellAt f w n i j
+
+module _ (f : CellFn) (w : Window) (n : ℕ) where
+  abbrev pub facesAt : ℕ → ℕ → ℕ
+  facesAt i j = cellAt f w n i j .faces
+
+  -- the first j cells of row i, after b
+  abbrev pub rowTo : ℕ → PassBest → ℕ → PassBest
+  rowTo i b j = for 0 j (λ j b. consider b (cellAt f w n i j) i j) b
+
+  -- the first i rows
+  abbrev pub rowsTo : ℕ → PassBest
+  rowsTo i = for 0 i (λ i b. rowOf f w n i b) noBest
+
+  pub record CountsTo (b : PassBest) (k m : ℕ) : Type 0 where
+    pub cells : b .cells ≡ k
+    pub faces : b .faces ≡ m
+
+  pub row-counts : (i : ℕ) (b : PassBest) (j : ℕ) → CountsTo (rowTo i b j) (b .cells + j) (b .faces + sum j (facesAt i))
+  unfolding consider
+  row-counts i b j =
+      for-ind (λ j b. consider b (cellAt f w n i j) i j) (λ (j : ℕ) (t : PassBest). CountsTo t (b .cells + j) (b .faces + sum j (facesAt i))) j
+      (λ k t l h. let z = sum-next k (facesAt i) in record { cells = omega (arith, h .cells); faces = omega (arith, h .faces, z) }) b
+      (let z = sum-none (facesAt i) in record { cells = omega arith; faces = omega (arith, z) })
+
+  pub rows-counts : (i : ℕ) → CountsTo (rowsTo i) (i * n) (sum i (λ i. sum n (facesAt i)))
+  unfolding rowOf
+  rows-counts i =
+      for-ind (λ i b. rowOf f w n i b) (λ (i : ℕ) (t : PassBest). CountsTo t (i * n) (sum i (λ i. sum n (facesAt i)))) i
+      (λ k t l h.
+      let r = row-counts k t n in
+      let z = sum-next k (λ i. sum n (facesAt i)) in
+      let y = add-mul k 1 n in
+      let o = one-mul n in
+      record { cells = omega (arith, h .cells, r .cells, y, o); faces = omega (arith, h .faces, r .faces, z) }) noBest
+      (let z = sum-none (λ i. sum n (facesAt i)) in let y = zero-mul n in record { cells = omega (arith, y); faces = omega (arith, z) })
+
+  -- ---- the best is as good as each cell met, and as what was there before
+
+  record Meets (i : ℕ) (b : PassBest) (j : ℕ) (t : PassBest) : Type 0 where
+    new : (k : ℕ) → k < j → AsGood (t .cell) (cellAt f w n i k)
+    old : (x : Cell) → AsGood (b .cell) x → AsGood (t .cell) x
+
+  row-meets : (i : ℕ) (b : PassBest) → Meets i b n (rowOf f w n i b)
+  unfolding rowOf consider
+  row-meets i b =
+      for-ind (λ j b. consider b (cellAt f w n i j) i j) (Meets i b) n
+      (λ j t l h.
+      record {
+        new = below-next (λ (k : ℕ). AsGood (consider t (cellAt f w n i j) i j .cell) (cellAt f w n i k)) j
+            (λ k m. better-old (cellAt f w n i j) (t .cell) (cellAt f w n i k) (h .new k m)) (better-new (cellAt f w n i j) (t .cell));
+        old = λ x g. better-old (cellAt f w n i j) (t .cell) x (h .old x g);
+      }) b
+      (record { new = λ k l. absurd (not-suc-le-zero l); old = λ x g. g })
+
+  pub pass-new : (i : ℕ) → i < n → (j : ℕ) → j < n → AsGood (passOf f w n .cell) (cellAt f w n i j)
+  unfolding passOf
+  pass-new =
+      for-ind (λ i b. rowOf f w n i b) (λ (i : ℕ) (t : PassBest). (h : ℕ) → h < i → (j : ℕ) → j < n → AsGood (t .cell) (cellAt f w n h j)) n
+      (λ i t l h.
+      below-next (λ (k : ℕ). (j : ℕ) → j < n → AsGood (rowOf f w n i t .cell) (cellAt f w n k j)) i
+      (λ k m j o. row-meets i t .old (cellAt f w n k j) (h k m j o)) (row-meets i t .new)) noBest
+      (λ k l. absurd (not-suc-le-zero l))
+
+  -- ---- what holds of no cell and of each cell holds of the best
+
+  row-of : (P : Cell → Type 0) → ((m ls : Float) → P (f m ls)) → (i : ℕ) (b : PassBest) → P (b .cell) → P (rowOf f w n i b .cell)
+  unfolding rowOf consider
+  row-of P all i b p =
+      for-keeps (λ (t : PassBest). P (t .cell)) (λ j b. consider b (cellAt f w n i j) i j) n
+      (λ j l t h. cond-ind P (better (cellAt f w n i j) (t .cell)) (all _ _) h) b p
+
+  pub pass-of : (P : Cell → Type 0) → ((m ls : Float) → P (f m ls)) → P noCell → P (passOf f w n .cell)
+  unfolding passOf
+  pass-of P all none = for-keeps (λ (t : PassBest). P (t .cell)) (λ i b. rowOf f w n i b) n (λ i l t h. row-of P all i t h) noBest none
+
+  -- ---- the best is the cell at its place
+
+  abbrev StandsOf : PassBest → Type 0
+  StandsOf b = T (b .cell .some) → Stands f w n (b .cell) (b .i) (b .j)
+
+  consider-stands : (b : PassBest) (i j : ℕ) → i < n → j < n → StandsOf b → StandsOf (consider b (cellAt f w n i j) i j)
+  unfolding consider
+  consider-stands b i j x y g = go (better (cellAt f w n i j) (b .cell))
+    where
+      go : (t : Bool) → T (cond t (cellAt f w n i j) (b .cell) .some) → Stands f w n (cond t (cellAt f w n i j) (b .cell)) (cond t i (b .i)) (cond t j (b .j))
+      go true h = record { row = x; column = y; is = refl }
+      go false h = g h
+
+  row-stands : (i : ℕ) (b : PassBest) → i < n → StandsOf b → StandsOf (rowOf f w n i b)
+  unfolding rowOf
+  row-stands i b x g = for-keeps StandsOf (λ j b. consider b (cellAt f w n i j) i j) n (λ j l t h. consider-stands t i j x l h) b g
+
+  pub pass-stands : StandsOf (passOf f w n)
+  unfolding passOf
+  pass-stands = for-keeps StandsOf (λ i b. rowOf f w n i b) n (λ i l t h. row-stands i t l h) noBest (λ h. absurd h)

@@ -1,0 +1,12 @@
+-- `search::moves::refuse` meets its contract. Assumes nothing.
+use Rattle.search.specs.Search.{refusedOf}
+use mathlib.Core.Path.{refl}
+use Rattle.search.proofs.moves.refuse.Statement.{statement}
+use Rattle.search.proofs.moves.refuse.Tie as tie
+
+returns : tie.Need-returns
+unfolding refusedOf
+returns c = refl
+
+pub refuse-spec : {M : Type 1} → statement M
+refuse-spec = tie.close (tie.spec returns)

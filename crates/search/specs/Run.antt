@@ -1,0 +1,24 @@
+-- The search of the fit: its cell, and its sizes. Definitions only.
+use mathlib.Core.Bool.{Bool, _&&_}
+use mathlib.Core.List.{List}
+use lib.Dec.{leb}
+use lib.Ieee.{Float}
+use Rattle.laws.specs.Choice.{unless}
+use Rattle.exponent.specs.Exp.{expOf}
+use Rattle.cell.specs.declared.Limits.{Limits}
+use Rattle.cell.specs.Cell.{innerOf}
+use Rattle.search.specs.declared.Plan.{Plan}
+use Rattle.search.specs.declared.Search.{Search}
+use Rattle.search.specs.Search.{CellFn, startOf, searchOf}
+
+-- the cell of the fit at (m, ln sigma), over observations k, w and scaled weights t
+unfoldable pub fitCell : List Float → List Float → List Float → Limits → CellFn
+fitCell ks ws ts l m ls = innerOf ks ws ts l m (expOf ls)
+
+-- the sizes of document 01
+unfoldable pub sizesHold : Plan → Bool
+sizesHold p = leb (p .n) 255 && (leb (p .refinements) 1000 && leb (p .«max_recentres») 1000)
+
+-- `run`; over a size nothing is searched
+unfoldable pub runOf : List Float → List Float → List Float → Limits → Plan → Search
+runOf ks ws ts l p = unless (sizesHold p) (startOf p) (searchOf (fitCell ks ws ts l) p)

@@ -1,0 +1,102 @@
+// A pass: the best cell of a window's grid.
+ghost use mathlib.Core.Path.{_≡_};
+ghost use mathlib.Core.Bool.{cond};
+ghost use Prim.Native.Nat.{_^_, _≤_, _<_};
+ghost use Rattle.cell.specs.Cell.{noCell};
+ghost use Rattle.search.specs.Search.{better, consider, rowOf, passOf};
+ghost use Rattle.search.specs.Run.{fitCell};
+use crate::PassBest;
+use crate::Window;
+use crate::points;
+use cell::Cell;
+use cell::Limits;
+
+// The cell at (m, ln sigma).
+fn cell_at(ks: &[f64], ws: &[f64], ts: &[f64], l: Limits, m: f64, ls: f64) -> Cell
+    ensures { λ r. ⌜ r ≡ fitCell (now (ks .entry)) (now (ws .entry)) (now (ts .entry)) l m ls ⌝ }
+{
+    cell::inner(ks, ws, ts, l, m, exponent::exp(ls))
+}
+
+fn pick_cell(c: bool, a: Cell, b: Cell) -> Cell
+    ensures { λ r. ⌜ r ≡ cond c a b ⌝ }
+{
+    if c { a } else { b }
+}
+
+fn better_than(c: Cell, b: Cell) -> bool
+    ensures { λ r. ⌜ r ≡ better c b ⌝ }
+{
+    c.some & (!b.some | (c.objective < b.objective))
+}
+
+fn considered(b: PassBest, c: Cell, i: usize, j: usize) -> PassBest
+    requires { ⌜ (b .cells < 2 ^ 60) × (b .faces < 2 ^ 60) × (c .faces < 2 ^ 60) ⌝ }
+    ensures { λ r. ⌜ r ≡ consider b c i j ⌝ }
+{
+    let old = b.cell;
+    let wins = better_than(c, old);
+    let cell = pick_cell(wins, c, old);
+    PassBest {
+        cell,
+        i: bits::pick_count(wins, i, b.i),
+        j: bits::pick_count(wins, j, b.j),
+        cells: b.cells + 1,
+        faces: b.faces + c.faces,
+    }
+}
+
+// Row i of the grid: of equal cells the earlier wins.
+fn row(
+    ks: &[f64],
+    ws: &[f64],
+    ts: &[f64],
+    l: Limits,
+    w: Window,
+    n: usize,
+    i: usize,
+    b: PassBest,
+) -> PassBest
+    requires { ⌜ (n ≤ 255) × (b .cells < 2 ^ 50) × (b .faces < 2 ^ 50) ⌝ }
+    ensures { λ r. ⌜ r ≡ rowOf (fitCell (now (ks .entry)) (now (ws .entry)) (now (ts .entry)) l) w n i b ⌝ }
+{
+    let m = points::linspace_at(w.m.lo, w.m.hi, n, i);
+    let mut best = b;
+    for j in 0..n {
+        let ls = points::linspace_at(w.s.lo, w.s.hi, n, j);
+        let c = cell_at(ks, ws, ts, l, m, ls);
+        best = considered(best, c, i, j);
+    }
+    best
+}
+
+pub(crate) fn no_cell() -> Cell
+    ensures { λ r. ⌜ r ≡ noCell ⌝ }
+{
+    Cell {
+        some: false,
+        objective: 0.0,
+        x: [0.0; 3],
+        active: [false; 7],
+        faces: 0,
+    }
+}
+
+// The whole grid, m outside and ln sigma inside.
+pub(crate) fn pass(ks: &[f64], ws: &[f64], ts: &[f64], l: Limits, w: Window, n: usize) -> PassBest
+    requires { ⌜ n ≤ 255 ⌝ }
+    ensures { λ r. ⌜ r ≡ passOf (fitCell (now (ks .entry)) (now (ws .entry)) (now (ts .entry)) l) w n ⌝ }
+{
+    let none = no_cell();
+    let mut best = PassBest {
+        cell: none,
+        i: 0,
+        j: 0,
+        cells: 0,
+        faces: 0,
+    };
+    for i in 0..n {
+        best = row(ks, ws, ts, l, w, n, i, best);
+    }
+    best
+}

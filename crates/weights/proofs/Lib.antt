@@ -1,0 +1,4 @@
+pub mod Places
+pub mod Sorted
+pub mod Shares
+pub mod Marked

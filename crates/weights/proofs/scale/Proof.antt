@@ -1,0 +1,45 @@
+-- `weights::scale` meets its contract. Assumes nothing.
+use mathlib.Core.Path.{_≡_, refl, ap}
+use Prim.Native.Nat.{_-_}
+use lib.ListN.{length}
+use Rattle.weights.specs.Weights.{scaleOne}
+use Rattle.weights.proofs.Places.{Scaling, scale-next, scale-end}
+use native.Mathlib.Omega.{arith}
+use borrow.Author.Needs.{needs}
+use Rattle.weights.proofs.scale.Statement.{statement}
+use Rattle.weights.proofs.scale.Tie as tie
+
+abbrev Inv-loop : tie.InvT-loop
+Inv-loop ws cap most a₀ i₀ i-end a i = Scaling (scaleOne cap most) ws a₀ i a
+
+abbrev μ-loop : tie.MeasureT-loop
+μ-loop ws cap most a₀ i₀ i-end a i = length ws - i
+
+loop-holds : tie.Need-loop-holds Inv-loop μ-loop
+loop-holds c = (search needs, refl)
+
+loop-again : tie.Need-loop-again Inv-loop μ-loop
+loop-again c =
+    let l = c .before .before .before .loop in
+    rw (c .min .ensures)
+    (scale-next (scaleOne (c .before .before .before .before .before .args .cap) (c .before .before .before .before .before .args .most)) (c .before .before .before .before .before .args .ws .now) (c .before .before .before .before .before .args .room) (l .a) (l .i) (c .before .before .loop-test .taken) (omega arith) (l .inv))
+
+returns : tie.Need-returns Inv-loop μ-loop
+returns c = scale-end (scaleOne (c .before .before .before .args .cap) (c .before .before .before .args .most)) (c .before .before .before .args .ws .now) (c .before .before .before .args .room) (c .before .loop .a) (c .before .loop .i) (c .loop-test .left) (c .before .loop .inv)
+
+pub scale-spec : {M : Type 1} → statement M
+scale-spec =
+    tie.close
+    (tie.spec
+    Inv-loop
+    μ-loop
+    loop-holds
+    (λ c. omega arith)
+    (λ c. omega arith)
+    (λ c κs. search needs)
+    (λ c. omega arith)
+    (λ c. omega arith)
+    (λ c. omega arith)
+    (λ c. omega arith)
+    loop-again
+    returns)

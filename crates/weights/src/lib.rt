@@ -1,0 +1,139 @@
+// Step 3 of the fit: the median weight, the cap, and the weights capped and scaled so that the largest is 1.
+ghost use mathlib.Core.Path.{_≡_};
+ghost use mathlib.Core.List.{map, _++_};
+ghost use Prim.Native.Nat.{_+_, _≤_, _<_};
+ghost use lib.ListN.{length, take, drop};
+ghost use Rattle.laws.specs.Floats.{positive};
+ghost use Rattle.laws.specs.Room.{atFront};
+ghost use Rattle.weights.specs.Weights.{insertOf, sortOf, midOf, topOf, scaleOne, goodFirst, weighed, weightsOf};
+
+// What step 3 hands on: whether every scaled weight is finite and positive, the cap, and the scaled weights in the first places of room for 256.
+pub struct Weights {
+    pub ok: bool,
+    pub cap: f64,
+    pub w: [f64; 256],
+}
+
+// The first n of `a` with x put among them: at each place the lesser stays, and the greater goes on.
+fn insert(a: [f64; 256], n: usize, x: f64) -> [f64; 256]
+    requires { ⌜ n < 256 ⌝ }
+    ensures { λ r. ⌜ r ≡ insertOf x (take n a) ++ drop (n + 1) a ⌝ }
+{
+    let mut out = a;
+    let mut carry = x;
+    for k in 0..n {
+        let y = a[k];
+        let less = carry < y;
+        out[k] = bits::pick(less, carry, y);
+        carry = bits::pick(less, y, carry);
+    }
+    out[n] = carry;
+    out
+}
+
+// The weights in ascending order, in the first places of the room.
+fn sort(room: [f64; 256], ws: &[f64]) -> [f64; 256]
+    requires { ⌜ length (now ws) ≤ 256 ⌝ }
+    ensures { λ r. ⌜ r ≡ atFront (sortOf (now (ws .entry))) room ⌝ }
+{
+    let n = ws.len();
+    let mut a = room;
+    for m in 0..n {
+        let w = ws[n - 1 - m];
+        let next = insert(a, m, w);
+        a = next;
+    }
+    a
+}
+
+// The middle of the first n of a sorted array.
+fn middle(a: [f64; 256], n: usize) -> f64
+    requires { ⌜ (1 ≤ n) × (n ≤ 256) ⌝ }
+    ensures { λ r. ⌜ r ≡ midOf n a ⌝ }
+{
+    let h = n / 2;
+    let hi = a[h];
+    if n % 2 == 0 {
+        let lo = a[h - 1];
+        return lo + 0.5 * (hi - lo);
+    }
+    hi
+}
+
+// The largest capped weight, or 0.
+fn top(ws: &[f64], cap: f64) -> f64
+    ensures { λ r. ⌜ r ≡ topOf cap (now (ws .entry)) ⌝ }
+{
+    let mut t = 0.0;
+    for i in 0..ws.len() {
+        t = bits::max(t, bits::min(ws[i], cap));
+    }
+    t
+}
+
+// Each weight, capped, over the largest, in the first places of the room.
+fn scale(room: [f64; 256], ws: &[f64], cap: f64, most: f64) -> [f64; 256]
+    requires { ⌜ length (now ws) ≤ 256 ⌝ }
+    ensures { λ r. ⌜ r ≡ atFront (map (scaleOne cap most) (now (ws .entry))) room ⌝ }
+{
+    let mut a = room;
+    for i in 0..ws.len() {
+        a[i] = bits::min(ws[i], cap) / most;
+    }
+    a
+}
+
+// Whether each of the first n is finite and positive.
+fn all_good(a: [f64; 256], n: usize) -> bool
+    requires { ⌜ n ≤ 256 ⌝ }
+    ensures { λ r. ⌜ r ≡ goodFirst n a ⌝ }
+{
+    let mut good = true;
+    for i in 0..n {
+        let x = a[i];
+        good = good & (bits::is_finite(x) & (0.0 < x));
+    }
+    good
+}
+
+// The room is filled with the sorted weights, for the median, and then with the scaled ones.
+fn weigh(ws: &[f64], ratio: f64) -> Weights
+    requires { ⌜ (1 ≤ length (now ws)) × (length (now ws) ≤ 256) ⌝ }
+    ensures { λ r. ⌜ r ≡ weighed ratio (now (ws .entry)) ⌝ }
+{
+    let n = ws.len();
+    let mut room = [0.0; 256];
+    let sorted = sort(room, ws);
+    room = sorted;
+    let cap = ratio * middle(room, n);
+    let most = top(ws, cap);
+    let scaled = scale(room, ws, cap, most);
+    room = scaled;
+    Weights {
+        ok: all_good(room, n),
+        cap,
+        w: room,
+    }
+}
+
+// The weights of step 3; of none, and of more than 256, nothing is made.
+pub fn weights_of(ws: &[f64], ratio: f64) -> Weights
+    ensures { λ r. ⌜ r ≡ weightsOf ratio (now (ws .entry)) ⌝ }
+{
+    let n = ws.len();
+    if n < 1 {
+        return Weights {
+            ok: false,
+            cap: 0.0,
+            w: [0.0; 256],
+        };
+    }
+    if 256 < n {
+        return Weights {
+            ok: false,
+            cap: 0.0,
+            w: [0.0; 256],
+        };
+    }
+    weigh(ws, ratio)
+}
