@@ -14,6 +14,10 @@ pub mod random;
 pub mod made;
 /// House files damaged from a seed.
 pub mod damage;
+/// The port, linked.
+pub mod port;
+/// Slices, surfaces and diagnostics of the Rust.
+pub mod surfaces;
 /// Files of a folder, threads, progress.
 pub mod work;
 
