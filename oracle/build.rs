@@ -6,6 +6,7 @@ fn main() {
     println!("cargo:rerun-if-changed={folder}/libport.a");
     println!("cargo:rerun-if-changed=../target/oracle/plain");
     println!("cargo:rerun-if-changed=../target/oracle/counted");
+    println!("cargo:rerun-if-changed=../target/oracle/started");
     println!("cargo:rustc-link-search=native={folder}");
     println!("cargo:rustc-link-lib=static=port");
 }

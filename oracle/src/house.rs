@@ -274,6 +274,7 @@ macro_rules! fit_slice_of {
 
 fit_slice_of!(fit_plain, plain);
 fit_slice_of!(fit_counted, counted);
+fit_slice_of!(fit_started, started);
 
 /// The Rust's whole answer to a file.
 #[derive(Debug, Clone)]

@@ -54,3 +54,8 @@ pub mod plain;
 #[allow(dead_code, private_interfaces, rustdoc::all)]
 #[path = "../../target/oracle/counted/surface.rs"]
 pub mod counted;
+
+/// The Rust with its float sums started at +0.
+#[allow(dead_code, private_interfaces, rustdoc::all)]
+#[path = "../../target/oracle/started/surface.rs"]
+pub mod started;

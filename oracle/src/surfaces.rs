@@ -221,7 +221,10 @@ pub mod made {
             7 => s.b = r.decades(-300, 0),
             8 => s.a = r.decades(-300, 300),
             9 => (s.rho, s.m) = (r.one_of(&[1.0, -1.0]), r.decades(-10, 10)),
-            10 => s.rho = r.near(r.one_of(&[1.0, -1.0]), 3),
+            10 => {
+                let one = r.one_of(&[1.0, -1.0]);
+                s.rho = r.near(one, 3);
+            }
             _ => {}
         }
         s
