@@ -121,9 +121,9 @@ fn once(r: &mut Random, f: &mut Vec<u8>, other: &[u8]) {
                 say(f, count + more);
             }
         }
-        // The settings left out, or put in.
+        // The settings left out (seldom: the defaults search long), or a whole number in them replaced.
         _ => {
-            if f.first() == Some(&1) && f.len() >= 92 && r.once_in(4) {
+            if f.first() == Some(&1) && f.len() >= 92 && r.once_in(200) {
                 f.drain(4..92);
                 f[0] = 0;
             } else if let Some(p) = f.get_mut(4 + 8 * r.one_of(&[0, 1, 2, 6])..).and_then(|p| p.get_mut(..8)) {
@@ -142,12 +142,10 @@ fn bounded(f: &mut [u8]) {
         return;
     }
     let passes = |s: &house::Settings| s.refinements + 2 * s.max_recentres + 1;
-    if s.grid * s.grid * passes(&s) > 300 {
+    if s.grid * s.grid * passes(&s) > 150 {
         s.refinements = s.refinements.min(1);
-        s.max_recentres = s.max_recentres.min(1);
-        if s.grid * s.grid * passes(&s) > 300 {
-            s.grid = s.grid.min(5 + s.grid % 3);
-        }
+        s.max_recentres = 0;
+        s.grid = s.grid.min(5 + s.grid % 3);
     }
     for (i, v) in s.words().iter().enumerate().take(3) {
         f[4 + 8 * i..12 + 8 * i].copy_from_slice(&v.to_le_bytes());

@@ -127,15 +127,16 @@ fn realistic(r: &mut Random) -> House {
     house(Some(s), &t, records)
 }
 
-/// A realistic slice that is mostly accepted, to be spoilt in one place.
+/// A realistic slice, to be damaged: one pass over the smallest grid, now and then a few.
 pub fn base(r: &mut Random) -> House {
     let t = Truth::new(r);
-    let n = r.from_to(5, 12);
+    let n = r.from_to(5, 9);
     let records = quotes(r, &t, n, 0.01);
+    let more = r.once_in(16);
     let s = Settings {
-        grid: r.from_to(5, 6) as u64,
-        refinements: r.below(2) as u64,
-        max_recentres: r.below(2) as u64,
+        grid: if more { r.from_to(5, 6) as u64 } else { 5 },
+        refinements: if more { r.below(3) as u64 } else { 0 },
+        max_recentres: if more { r.below(2) as u64 } else { 0 },
         max_rmse_vol: 1.0,
         ..Settings::defaults()
     };

@@ -21,3 +21,19 @@ pub fn run(file: &[u8]) -> Vec<u8> {
     out.truncate(size);
     out
 }
+
+/// What one side says: document 01's number (0 for none), counts and positions, floats.
+#[derive(Debug, Clone)]
+pub struct Said {
+    pub number: u32,
+    pub counts: Vec<usize>,
+    pub floats: Vec<f64>,
+}
+
+impl std::fmt::Display for Said {
+    fn fmt(&self, f: &mut std::fmt::Formatter<'_>) -> std::fmt::Result {
+        write!(f, "{}", self.number)?;
+        self.counts.iter().try_for_each(|n| write!(f, " {n}"))?;
+        self.floats.iter().try_for_each(|x| write!(f, " {:016x}", x.to_bits()))
+    }
+}
