@@ -19,6 +19,12 @@ pub struct Raw {
     pub k_hi: f64,
 }
 
+impl Raw {
+    pub fn values(&self) -> [f64; 8] {
+        [self.tau, self.a, self.b, self.rho, self.m, self.sigma, self.k_lo, self.k_hi]
+    }
+}
+
 /// Document 01's number of a refusal, by the Rust's own words for it.
 pub fn number_of(text: &str) -> u32 {
     const WORDS: &[(&str, u32)] = &[
@@ -152,15 +158,26 @@ pub struct Tally {
     pub worst: Option<[f64; 3]>,
 }
 
+pub fn clean(c: Tally) -> bool {
+    check(c).is_clean()
+}
+
 fn tally(c: Check) -> Tally {
     Tally { points: c.points, violations: c.violations, worst: c.worst.map(|p| [p.k, p.tau, p.value]) }
 }
 
+fn diagnostic_point(p: [f64; 3]) -> DiagnosticPoint {
+    DiagnosticPoint { k: p[0], tau: p[1], value: p[2] }
+}
+
+fn check(c: Tally) -> Check {
+    Check { points: c.points, violations: c.violations, worst: c.worst.map(diagnostic_point) }
+}
+
 /// One more value recorded.
 pub fn record(c: Tally, at: [f64; 3], tolerance: f64) -> Tally {
-    let p = |p: [f64; 3]| DiagnosticPoint { k: p[0], tau: p[1], value: p[2] };
-    let mut check = Check { points: c.points, violations: c.violations, worst: c.worst.map(p) };
-    check.record(p(at), tolerance);
+    let mut check = check(c);
+    check.record(diagnostic_point(at), tolerance);
     tally(check)
 }
 
@@ -169,6 +186,7 @@ pub fn record(c: Tally, at: [f64; 3], tolerance: f64) -> Tally {
 pub struct Report {
     pub checks: [Tally; 3],
     pub failures: Vec<[f64; 3]>,
+    pub clean: bool,
 }
 
 /// `room` is the number of floats lent, three for each grid point.
@@ -183,7 +201,9 @@ pub fn diagnosed(run: &[Raw], constant_vol: bool, ks: &[f64], taus: &[f64], tole
     let grid = grid(ks, taus)?;
     let config = DiagnosticsConfig { butterfly_tolerance: tolerances[0], calendar_tolerance: tolerances[1] };
     let d = diagnose(&s, &grid, config).map_err(numbered)?;
+    let clean = d.is_clean();
     Ok(Report {
+        clean,
         checks: [tally(d.butterfly), tally(d.calendar_slope), tally(d.calendar_gap)],
         failures: d.evaluation_failures.iter().map(|(k, tau, why)| [*k, *tau, f64::from(number_of(why))]).collect(),
     })

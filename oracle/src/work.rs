@@ -140,6 +140,8 @@ impl Words {
                 out.options.push((name, Some(value)));
             } else if marks.contains(&name.as_str()) {
                 out.options.push((name, None));
+            } else if name == "help" {
+                return Err("how it goes:".to_string());
             } else {
                 return Err(format!("unknown option {a}"));
             }

@@ -1,7 +1,8 @@
 //! The solver and single cells of the search: the port beside the Rust, on systems where pivots tie and on data where faces do.
 
 use oracle::random::Random;
-use oracle::{counted, counts, plain, port, rule, work};
+use oracle::port::cells as port;
+use oracle::{counted, counts, plain, rule, work};
 
 const HOW: &str = "oracle/compare-solve [--seed S] [--count N] [--jobs J]
     N systems of 1 to 6 unknowns and a tenth as many cells; exit status 1 where something differs";

@@ -1,6 +1,6 @@
 //! Slices, surfaces and diagnostics: the port beside the Rust on records, points and grids from a seed.
 
-use oracle::port::{self, Said};
+use oracle::port::surfaces::{self as port, Said};
 use oracle::random::Random;
 use oracle::surfaces::{self as rust, Asked, Raw, Report, Tally, made};
 use oracle::{rule, work};
@@ -68,13 +68,14 @@ fn tallied(t: Tally) -> Said {
 fn reported(a: Asked<Report>, room: &[f64]) -> Said {
     let mut out = Said { number: *a.as_ref().err().unwrap_or(&0), counts: Vec::new(), floats: Vec::new() };
     let nothing = Tally { points: 0, violations: 0, worst: None };
-    let report = a.unwrap_or(Report { checks: [nothing; 3], failures: Vec::new() });
+    let report = a.unwrap_or(Report { checks: [nothing; 3], failures: Vec::new(), clean: true });
     for t in report.checks {
         let t = tallied(t);
         out.counts.extend(t.counts);
         out.floats.extend(t.floats);
     }
     out.counts.push(report.failures.len());
+    out.counts.push(usize::from(report.clean));
     let failures = report.failures.as_flattened();
     out.floats.extend(failures);
     out.floats.extend(&room[failures.len()..]);
@@ -87,8 +88,14 @@ fn slices(r: &mut Random, run: &[Raw], shown: &mut Shown) {
         if r.once_in(3) {
             made::spoil(r, &mut s);
         }
-        shown.ask("k_range", || format!("{s:?}"), port::k_range(s.k_lo, s.k_hi), number(rust::k_range(s.k_lo, s.k_hi)));
-        shown.ask("slice", || format!("{s:?}"), port::slice(&s), number(rust::slice(&s)));
+        let range = rust::k_range(s.k_lo, s.k_hi);
+        shown.ask("k_range", || format!("{s:?}"), port::k_range(s.k_lo, s.k_hi), said(range.map(|g| [g.lo(), g.hi()])));
+        if let Ok(range) = range {
+            let k = made::k(r, run);
+            shown.ask("contains", || format!("{s:?} {k:e}"), port::contains(s.k_lo, s.k_hi, k), yes(Ok(range.contains(k))));
+        }
+        let made = rust::slice(&s).map(|t| [t.tau(), t.a(), t.b(), t.rho(), t.m(), t.sigma(), t.k_range().lo(), t.k_range().hi()]);
+        shown.ask("slice", || format!("{s:?}"), port::slice(&s), said(made));
         shown.ask("minimum", || format!("{s:?}"), port::minimum(&s), said(rust::minimum(&s).map(|v| [v])));
         shown.ask("lee_slope", || format!("{s:?}"), port::lee_slope(&s), said(rust::lee_slope(&s).map(|v| [v])));
         for _ in 0..3 {
@@ -159,6 +166,7 @@ fn tallies(r: &mut Random, shown: &mut Shown) {
         let next = rust::record(tally, at, tolerance);
         shown.ask("check_record", || format!("{tally:?} {at:?} {tolerance:e}"), port::check_record(tally, at, tolerance), tallied(next));
         tally = next;
+        shown.ask("check_clean", || format!("{tally:?}"), port::check_clean(tally), yes(Ok(rust::clean(tally))));
     }
 }
 
