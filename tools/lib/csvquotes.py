@@ -48,18 +48,21 @@ def decimal(text, what, unchecked=False):
 
 
 def lines_of(text):
-    """The delimiter, and (line number, fields) of each line that holds something."""
+    """(line number, fields) of each line that holds something."""
     raw = text.split("\n")
     first = next((line for line in raw if line.strip() and not line.startswith("#")), "")
     delimiter = next((d for d in ",;\t" if d in first), ",")
     blanked = ["" if line.startswith("#") else line.rstrip("\r") for line in raw]
     reader = csv.reader(blanked, delimiter=delimiter, strict=True)
+    line = 1
     try:
         for fields in reader:
             if any(field.strip() for field in fields):
-                yield reader.line_num, fields
+                yield line, fields
+            line = reader.line_num + 1
     except csv.Error as error:
-        raise BadInput(f"line {reader.line_num}: {error}") from None
+        why = "a quotation mark is not closed" if "end of data" in str(error) else str(error)
+        raise BadInput(f"line {line}: {why}") from None
 
 
 def form_of(names):

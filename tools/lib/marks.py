@@ -4,7 +4,7 @@ import math
 
 from answer import vol
 from housefile import firsts
-from words import plural
+from words import percent, plural
 
 FAR = 3.0  # a volatility this many times the median, or this fraction of it, is marked
 
@@ -117,7 +117,7 @@ def marks(house):
         if quote.w == 0:
             found[i].append("w = 0: no volatility quoted")
         elif middle and vols[i] and not middle / FAR <= vols[i] <= middle * FAR:
-            found[i].append(f"vol {vols[i]:.1%} beside a median of {middle:.1%}")
+            found[i].append(f"vol {percent(vols[i])} beside a median of {percent(middle)}")
         if len(ks) >= 5 and alone(ks, quote.k):
             found[i].append("k is far from all others")
         if quote.number in numbers:

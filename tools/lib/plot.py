@@ -18,6 +18,7 @@ CURVE, BESIDE, REPEAT, CAPPED = "#1858b8", "#c4302b", "#e07b00", "#7b3fb5"
 GOOD, BAD = "#16794a", "#b3261e"
 FONT = "Helvetica, Arial, 'DejaVu Sans', sans-serif"
 STEPS = 160  # straight pieces of a curve
+FARTHEST = 1e100  # a quote beyond it has no place in a picture
 
 
 def clean(text):
@@ -34,8 +35,9 @@ class Scale:
     """From values to units along one axis, with round marks."""
 
     def __init__(self, lo, hi, start, end, room=0.07):
-        if lo == hi:
-            pad = abs(lo) * 0.1 or 0.01
+        most = max(abs(lo), abs(hi))
+        if hi - lo <= 1e-9 * most or hi - lo < 1e-200:  # one value: room around it
+            pad = most * 0.1 if most > 1e-100 else 0.01
             lo, hi = lo - pad, hi + pad
         pad = (hi - lo) * room
         self.lo, self.hi = lo - pad, hi + pad
@@ -56,11 +58,11 @@ class Scale:
 
 def label(x, step):
     """A mark in as many decimals as its step needs."""
-    if x and not 1e-4 <= abs(x) < 1e6:
+    if x == 0:
+        return "0"
+    if not 1e-4 <= abs(x) < 1e6:
         return f"{x:.3g}"
-    places = max(0, min(8, -math.floor(math.log10(step) + 1e-9)))
-    if round(step * 10**places) * 10**-places != step and f"{step:.{places}f}" != f"{step:g}":
-        places += 1
+    places = next((p for p in range(8) if abs(round(step, p) - step) < step * 1e-6), 8)
     return f"{x:.{places}f}".replace("-", "\N{MINUS SIGN}")
 
 
@@ -114,7 +116,7 @@ def dot(picture, x, y, kind):
 
 
 def axis_of_k(picture, scale, top, bottom, labels):
-    values, step = scale.ticks(6)
+    values, step = scale.ticks(7)
     for value in values:
         x = scale(value)
         picture.line(x, top, x, bottom)
@@ -137,8 +139,10 @@ def curve(picture, fit, k_scale, v_scale, lo, hi, stroke, dashes=""):
     for i in range(STEPS + 1):
         k = lo + (hi - lo) * i / STEPS
         v = vol(variance(fit, k), fit["tau"])
-        if v is not None:
+        if v is not None and v < FARTHEST:
             spots.append(f"{number(k_scale(k))} {number(v_scale(v * 100))}")
+    if not spots:
+        return
     picture.add(
         f'<path class="curve" d="M{"L".join(spots)}" fill="none" stroke="{stroke}" stroke-width="3.5"'
         f' stroke-linejoin="round"{dashes}/>'
@@ -215,10 +219,9 @@ def draw(name, house, answer, why=None, beside=None, beside_label=None):
     if not accepted:
         y = advice(picture, y + 8, answer, why)
     shown = drawable(house) if house else []
-    lo, hi = bounds([house.quotes[i].k for i in shown]) if shown else (0.0, 0.0)
-    if not shown or not math.isfinite(hi - lo):
-        why_not = "No quote has a place in a picture." if not shown else "The quotes lie too far apart to draw."
-        return picture.done(picture.paragraph(22, y + 24, why_not, 19, GREY) + 10)
+    if not shown:
+        return picture.done(picture.paragraph(22, y + 24, "No quote has a place in a picture.", 19, GREY) + 10)
+    lo, hi = bounds([house.quotes[i].k for i in shown])
     bottom = 512 if accepted else 668
     kinds = panel(picture, house, answer, shown, (lo, hi), y + 36, bottom, beside)
     if accepted:
@@ -230,7 +233,8 @@ def draw(name, house, answer, why=None, beside=None, beside_label=None):
 
 def drawable(house):
     """Positions of the records that have a place in the picture: repeats fall onto their first."""
-    return [i for i in marks.kept(house) if math.isfinite(house.quotes[i].k) and vol(house.quotes[i].w, house.tau) is not None]
+    vols = {i: vol(house.quotes[i].w, house.tau) for i in marks.kept(house)}
+    return [i for i, v in vols.items() if v is not None and v < FARTHEST and abs(house.quotes[i].k) < FARTHEST]
 
 
 def bounds(values):
@@ -245,7 +249,7 @@ def panel(picture, house, answer, shown, ends, top, bottom, beside):
     for fit in fits:
         for i in range(STEPS + 1):
             v = vol(variance(fit, ends[0] + (ends[1] - ends[0]) * i / STEPS), fit["tau"])
-            heights += [] if v is None else [v * 100]
+            heights += [v * 100] if v is not None and v < FARTHEST else []
     k_scale = Scale(*ends, LEFT, RIGHT)
     v_scale = Scale(*bounds(heights), bottom, top, 0.09)
     axis_of_k(picture, k_scale, top, bottom, not answer.fit)
@@ -275,7 +279,7 @@ def residuals(picture, house, answer, ends, top, bottom):
     """Quote minus curve, in volatility points, one bar for each quote kept."""
     values = [point.residual * 100 for point in answer.points]
     k_scale = Scale(*ends, LEFT, RIGHT)
-    reach = max([abs(v) for v in values if math.isfinite(v)] or [0]) or 0.01
+    reach = max([abs(v) for v in values if abs(v) < FARTHEST] or [0]) or 0.01
     scale = Scale(-reach, reach, bottom, top, 0.12)
     axis_of_k(picture, k_scale, top, bottom, True)
     axis_of_vol(picture, scale, 4)
@@ -283,7 +287,7 @@ def residuals(picture, house, answer, ends, top, bottom):
     picture.line(LEFT, scale(0), RIGHT, scale(0), GREY, 1.5)
     groups, places = marks.groups(house), marks.kept(house)
     for i, (point, value) in enumerate(zip(answer.points, values)):
-        if math.isfinite(value):
+        if abs(value) < FARTHEST and abs(point.k) < FARTHEST:
             x = k_scale(point.k)
             colour = CAPPED if i in answer.capped else REPEAT if places[i] in groups else INK
             picture.line(x, scale(0), x, scale(value), colour, 5)

@@ -53,9 +53,21 @@ def plural(count, one, many=None):
     return f"{count:,} {one if count == 1 else many or one + 's'}"
 
 
+def short(x):
+    """A float in about six digits, however large or small it is."""
+    return f"{x:.6f}" if x == 0 or 1e-4 <= abs(x) < 1e4 else f"{x:.6g}"
+
+
+def percent(v):
+    """A volatility in per cent, '-' where there is none."""
+    if v is None:
+        return "-"
+    return f"{v:.2%}" if v < 100 else f"{v * 100:.4g}%"
+
+
 def points(x):
     """A volatility in volatility points: 0.0123 is 1.23."""
-    return f"{x * 100:.2f}"
+    return f"{x * 100:.2f}" if abs(x) < 100 else f"{x * 100:.4g}"
 
 
 def refused(answer):
