@@ -109,10 +109,13 @@ def dot(picture, x, y, kind):
     """A quote: its shape says what it is, so that colour is not needed to tell."""
     x, y = number(x), number(y)
     if "capped" in kind:
-        picture.add(f'<path class="capped" d="M{x} {y}m0 -13l13 13l-13 13l-13 -13z" fill="none" stroke="{CAPPED}" stroke-width="3"/>')
+        picture.add(f'<path class="capped" d="M{x} {y}m0 -14l14 14l-14 14l-14 -14z" fill="none" stroke="{CAPPED}" stroke-width="3"/>')
+    if "unusable" in kind:
+        picture.add(f'<path class="unusable" d="M{x} {y}m-8 -8l16 16m0 -16l-16 16" stroke="{BAD}" stroke-width="4"/>')
+        return
     if "repeat" in kind:
-        picture.add(f'<circle class="repeat" cx="{x}" cy="{y}" r="12" fill="none" stroke="{REPEAT}" stroke-width="3"/>')
-    picture.add(f'<circle class="quote" cx="{x}" cy="{y}" r="5.5" fill="{INK}" stroke="{PAPER}" stroke-width="1.5"/>')
+        picture.add(f'<circle class="repeat" cx="{x}" cy="{y}" r="13" fill="none" stroke="{REPEAT}" stroke-width="3"/>')
+    picture.add(f'<circle class="quote" cx="{x}" cy="{y}" r="6.5" fill="{INK}" stroke="{PAPER}" stroke-width="1.5"/>')
 
 
 def axis_of_k(picture, scale, top, bottom, labels):
@@ -197,6 +200,8 @@ def legend(picture, y, kinds, fitted, beside):
         entries.append(("dot", {"repeat"}, "sent more than once"))
     if any("capped" in kind for kind in kinds):
         entries.append(("dot", {"capped"}, "weight capped"))
+    if any("unusable" in kind for kind in kinds):
+        entries.append(("dot", {"unusable"}, "not usable, at its k"))
     x = 22.0
     for form, what, text in entries:
         wide = 48 + len(text) * 9.6
@@ -272,6 +277,10 @@ def panel(picture, house, answer, shown, ends, top, bottom, beside):
             over = y - 20 > top + 16
             picture.text(x, y - 19 if over else y + 34, f"\N{MULTIPLICATION SIGN}{len(groups[i])}", 22, REPEAT, "bold", "middle")
         kinds.append(kind)
+    for i, quote in enumerate(house.quotes):
+        if not marks.usable(quote) and k_scale.lo <= quote.k <= k_scale.hi:  # no place on the scale of vols: at the foot
+            dot(picture, k_scale(quote.k), bottom - 12, {"unusable"})
+            kinds.append({"unusable"})
     return kinds
 
 

@@ -77,9 +77,9 @@ class Plot(Case):
         self.assertIn("What to do: add quotes in the wings", whole)
 
     def test_an_unusable_quote_is_left_out_and_named(self):
-        house = NO_SETTINGS + expiry(0.25) + records(*SIX, (9, 0.7, math.nan, 1.0), (10, 0.8, -1.0, 1.0))
+        house = NO_SETTINGS + expiry(0.25) + records(*SIX, (9, 0.4, math.nan, 1.0), (10, math.inf, -1.0, 1.0))
         root, texts = self.parts(self.svg(house, "read 8 kept 8\nrefused 10 0 0\n"))
-        self.assertEqual(self.count(root, "quote"), 7)
+        self.assertEqual((self.count(root, "quote"), self.count(root, "unusable")), (7, 1 + 1))
         self.assertIn("Why: 2 quotes not usable, first record 6.", texts)
 
     def test_a_malformed_file(self):
