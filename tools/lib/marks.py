@@ -3,7 +3,7 @@
 import math
 
 from answer import vol
-from housefile import firsts
+from housefile import SETTINGS, firsts
 from words import percent, plural
 
 FAR = 3.0  # a volatility this many times the median, or this fraction of it, is marked
@@ -57,7 +57,7 @@ def early(house):
     bad = [i for i, quote in enumerate(house.quotes) if not usable(quote)]
     if bad:
         return 10, f"{plural(len(bad), 'quote')} not usable, first record {bad[0]}"
-    floats = [s[name] for name in ("sigma_lo", "sigma_hi", "a_min", "max_rmse_vol", "pivot_tolerance", "feasibility_tolerance", "max_weight_ratio")]
+    floats = [s[name] for name, count, _ in SETTINGS if not count]
     in_range = all(math.isfinite(x) and x > 0 for x in floats) and s["sigma_lo"] < s["sigma_hi"]
     if s["grid"] < 5 or s["min_observations"] < 5 or not in_range:
         return 1, "a setting is out of range"

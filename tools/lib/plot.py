@@ -109,7 +109,8 @@ def dot(picture, x, y, kind):
     """A quote: its shape says what it is, so that colour is not needed to tell."""
     x, y = number(x), number(y)
     if "capped" in kind:
-        picture.add(f'<path class="capped" d="M{x} {y}m0 -14l14 14l-14 14l-14 -14z" fill="none" stroke="{CAPPED}" stroke-width="3"/>')
+        shape = f"M{x} {y}m0 -14l14 14l-14 14l-14 -14z"
+        picture.add(f'<path class="capped" d="{shape}" fill="none" stroke="{CAPPED}" stroke-width="3"/>')
     if "unusable" in kind:
         picture.add(f'<path class="unusable" d="M{x} {y}m-8 -8l16 16m0 -16l-16 16" stroke="{BAD}" stroke-width="4"/>')
         return

@@ -8,7 +8,11 @@ REFUSALS = {
         "correct the setting, or leave the settings out: the defaults always pass",
     ),
     2: ("tau is not a time", "the time to expiry is not a finite number above 0", "give tau in years: 0.25 for three months"),
-    3: ("too few quotes", "too few quotes are left once repeats are dropped", "wait for more quotes; copies of one quote count once"),
+    3: (
+        "too few quotes",
+        "too few quotes are left once repeats are dropped",
+        "wait for more quotes; copies of one quote count once",
+    ),
     4: ("one strike only", "the quotes lie at one k, or too far apart to measure", "add quotes at other strikes"),
     5: (
         "the weights do not scale",
