@@ -15,6 +15,8 @@ import re
 import struct
 from collections import namedtuple
 
+from words import shown
+
 SEARCH = ("passes", "recentres", "shrinks", "cells", "faces")
 FIT = ("tau", "a", "b", "rho", "m", "sigma")
 MARGINS = ("objective", "objective_params", "lee_margin", "a_margin", "rmse_vol")
@@ -74,7 +76,7 @@ class Lines:
             self.fail(f"the text ends where '{first}' should stand")
         words = self.lines[self.at].split(" ")
         if words[0] != first:
-            self.fail(f"'{self.lines[self.at][:40]}' where '{first}' should stand")
+            self.fail(f"'{shown(self.lines[self.at])}' where '{first}' should stand")
         if count is not None and len(words) != count + 1:
             self.fail(f"'{first}' has {len(words) - 1} values, wanted are {count}")
         return words[1:]
@@ -84,12 +86,12 @@ class Lines:
 
     def whole(self, text):
         if not re.fullmatch(r"\d{1,20}", text, re.ASCII):
-            self.fail(f"'{text[:40]}' is not a count")
+            self.fail(f"'{shown(text)}' is not a count")
         return int(text)
 
     def number(self, text):
         if not re.fullmatch(r"[0-9a-f]{16}", text):
-            self.fail(f"'{text[:40]}' is not 16 hex digits")
+            self.fail(f"'{shown(text)}' is not 16 hex digits")
         return struct.unpack(">d", bytes.fromhex(text))[0]
 
     def wholes(self, first, names):
@@ -122,7 +124,7 @@ def parse(text):
     margins = lines.numbers("margins", MARGINS)
     (marks,) = lines.take("active", 1)
     if not re.fullmatch("[01]{7}", marks):
-        lines.fail(f"'{marks[:40]}' is not seven digits 0 or 1")
+        lines.fail(f"'{shown(marks)}' is not seven digits 0 or 1")
     lines.next()
     words = lines.take("capped")
     capped = [lines.whole(word) for word in words]
@@ -156,4 +158,4 @@ def refusal(lines, read, kept, search):
 
 def ended(lines):
     if lines.at < len(lines.lines):
-        lines.fail(f"'{lines.lines[lines.at][:40]}' after the end of the answer")
+        lines.fail(f"'{shown(lines.lines[lines.at])}' after the end of the answer")

@@ -11,6 +11,7 @@ import math
 import re
 
 from housefile import MOST_QUOTES, Quote
+from words import shown
 
 FORMS = (("number", "k", "w", "weight"), ("number", "strike", "forward", "vol", "weight"))
 DECIMAL = re.compile(r"[+-]?(\d+\.?\d*|\.\d+)([eE][+-]?\d+)?", re.ASCII)
@@ -26,7 +27,7 @@ def whole(text, what):
     """A count from 0 to 2^64 - 1."""
     text = text.strip()
     if not re.fullmatch(r"\d+", text, re.ASCII) or len(text) > 20 or int(text) > LARGEST_COUNT:
-        raise BadInput(f"{what} '{text}' is not a whole number from 0 to {LARGEST_COUNT}")
+        raise BadInput(f"{what} '{shown(text)}' is not a whole number from 0 to {LARGEST_COUNT}")
     return int(text)
 
 
@@ -37,14 +38,14 @@ def decimal(text, what, unchecked=False):
         value = float(text)
         if math.isfinite(value) or unchecked:
             return value
-        raise BadInput(f"{what} '{text}' is too large")
+        raise BadInput(f"{what} '{shown(text)}' is too large")
     if unchecked and SPECIAL.fullmatch(text):
         return float(text)
     if SPECIAL.fullmatch(text):
-        raise BadInput(f"{what} '{text}' is not a finite number")
+        raise BadInput(f"{what} '{shown(text)}' is not a finite number")
     if text.endswith("%") and DECIMAL.fullmatch(text[:-1].strip()):
-        raise BadInput(f"{what} '{text}' is not a number: write {float(text[:-1]) / 100:g} for {text}")
-    raise BadInput(f"{what} '{text}' is not a number" if text else f"{what} is empty")
+        raise BadInput(f"{what} '{shown(text)}' is not a number: write {float(text[:-1]) / 100:g} for {shown(text)}")
+    raise BadInput(f"{what} '{shown(text)}' is not a number" if text else f"{what} is empty")
 
 
 def lines_of(text):
@@ -81,7 +82,7 @@ def form_of(names):
 
 def positive(value, what, text):
     if not value > 0:
-        raise BadInput(f"{what} {text.strip()} is not above 0")
+        raise BadInput(f"{what} {shown(text)} is not above 0")
     return value
 
 
@@ -102,12 +103,12 @@ def quote_of(fields, tau, unchecked):
         vol = decimal(fields["vol"], "vol", unchecked)
         k, w, what = math.log(ratio), vol * vol * tau, "vol"
         if vol < 0 and not unchecked:
-            raise BadInput(f"vol {fields['vol'].strip()} is below 0")
+            raise BadInput(f"vol {shown(fields['vol'])} is below 0")
     if not unchecked:
         if not math.isfinite(w):
-            raise BadInput(f"{what} {fields[what].strip()} is too large")
+            raise BadInput(f"{what} {shown(fields[what])} is too large")
         if w < 0:
-            raise BadInput(f"w {fields['w'].strip()} is below 0")
+            raise BadInput(f"w {shown(fields['w'])} is below 0")
         positive(weight, "weight", fields["weight"])
     return Quote(number, k, w, weight)
 
@@ -124,7 +125,7 @@ def read(text, name, tau, unchecked=False):
                 doubled = [n for n in form if names.count(n) > 1]
                 if doubled:
                     raise BadInput(f"column {doubled[0]} stands there twice")
-                extra = [n or "(no name)" for n in names if n not in form]
+                extra = [shown(n) or "(no name)" for n in names if n not in form]
                 if extra:
                     notes.append(f"{name}: left out: {', '.join(extra)}")
                 continue
@@ -134,8 +135,8 @@ def read(text, name, tau, unchecked=False):
                 raise BadInput(f"more than {MOST_QUOTES} quotes; a house file holds at most {MOST_QUOTES}")
             by_name = {n: field for n, field in zip(names, fields) if n in form}
             quotes.append(quote_of(by_name, tau, unchecked))
-            if "vol" in by_name and float(by_name["vol"]) > 4:
-                vol = float(by_name["vol"])
+            vol = decimal(by_name["vol"], "vol", unchecked) if "vol" in by_name else 0.0
+            if vol > 4:
                 notes.append(f"{with_line}: vol {vol:g} means {vol * 100:g} %; is {vol / 100:g} meant?")
         except BadInput as error:
             raise BadInput(f"{with_line}: {error}") from None

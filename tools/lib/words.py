@@ -53,6 +53,12 @@ REFUSALS = {
 }
 
 
+def shown(text):
+    """A field as a message quotes it: short, on one line."""
+    text = "".join(c if c.isprintable() else "?" for c in text.strip())
+    return text if len(text) <= 40 else text[:40] + ".."
+
+
 def plural(count, one, many=None):
     return f"{count:,} {one if count == 1 else many or one + 's'}"
 

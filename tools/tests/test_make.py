@@ -1,8 +1,10 @@
 """house make: bytes against bytes written out by hand, and every error with its line."""
 
 import math
+import random
 import struct
 
+import csvquotes
 from support import HOUSE, NO_SETTINGS, Case, expiry, records, settings
 
 K_FORM = "number,k,w,weight\n"
@@ -98,6 +100,19 @@ class Make(Case):
                 self.assertEqual(self.error(VOL_FORM + good * 5 + row + "\n"), "quotes.csv " + message)
         self.assertEqual(self.error(K_FORM + "1,inf,0.2,1\n"), "quotes.csv line 2: k 'inf' is not a finite number")
         self.assertEqual(self.error(K_FORM + "1,0,-0.2,1\n"), "quotes.csv line 2: w -0.2 is below 0")
+
+    def test_no_text_makes_it_stumble(self):
+        chance = random.Random(1)
+        odd = ['"', "'", "\0", "\r", "\n", ",", ";", "\t", "#", "nan", "1e400", "--", "\u00bd", "\u0663", "1__0", "0x10", "\ufeff", "\u2028", "\x1c", "20%", "9" * 30]
+        for _ in range(400):
+            text = chance.choice((K_FORM + "1,0.1,0.04,1\n", VOL_FORM + "1,100,100,0.2,1\n2,110,100,0.21,1\n"))
+            for _ in range(chance.randrange(1, 4)):
+                at = chance.randrange(len(text) + 1)
+                text = text[:at] + chance.choice(odd) + text[at + chance.choice((0, 0, 1, 3)) :]
+            try:
+                csvquotes.read(text, "quotes.csv", 0.25, chance.random() < 0.3)
+            except csvquotes.BadInput as error:
+                self.assertTrue(str(error).isprintable(), repr(str(error)))
 
     def test_wrong_columns(self):
         self.assertEqual(self.error("1,0,0.25,1\n"), "quotes.csv line 1: the first line must name the columns: number, k, w, weight; or number, strike, forward, vol, weight")
