@@ -66,7 +66,7 @@ pub(crate) fn greatest(a: u64, b: u64) -> u64
 
 // The bit pattern of a root q * 2 ^ (e - 1), rounded. `more` says whether the root is above that.
 // Of 54 digits one is dropped, of 55 two: u = 1, 2 is half the weight of what is dropped. It goes up from the middle on, but in the middle only where there is more or what is kept is odd.
-// Past the largest finite number that is infinity's pattern or one above it.
+// Past the largest finite number the sum reaches infinity's pattern or passes it, and is cut to that.
 pub(crate) fn place(q: u64, more: u64, e: u64) -> u64
     requires { ⌜ (q < 2 ^ 55) × (e ≤ 2045) × (2 ^ 53 ≤ q ⊎ e ≡ 0) ⌝ }
     ensures { λ r. ⌜ (r ≤ 2047 * 2 ^ 52) × ((n : ℕ) → Between (4 * n) (sq (2 ^ e)) q more → ofBits binary64 r ≡ rootUnits n) ⌝ }
