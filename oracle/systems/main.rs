@@ -101,7 +101,10 @@ fn entry(r: &mut Random, kind: usize, zero: bool) -> f64 {
         4 => r.one_of(&[1.0, -1.0]),
         5 => r.below(3) as f64 - 1.0,
         6 => r.signed() * r.decades(-300, 299),
-        _ => f64::from_bits(r.below(if r.below(2) == 0 { 8 } else { 1 << 52 })) * r.one_of(&[1.0, -1.0]),
+        _ => {
+            let most = if r.below(2) == 0 { 8 } else { 1 << 52 };
+            f64::from_bits(r.below(most)) * r.one_of(&[1.0, -1.0])
+        }
     }
 }
 
@@ -224,16 +227,16 @@ fn cells(count: u64) -> u64 {
     wrong
 }
 
-/// Nanoseconds a solve: the least of nine rounds, the two programs in turn. The Rust takes a copy of its matrix, as `inner` makes one for each face.
+/// Nanoseconds a solve: the least of 400 short rounds, so that a busy machine does not show, the two programs in turn. The Rust takes a copy of its matrix, as `inner` makes one for each face.
 fn bench() {
-    const SOLVES: usize = 100_000;
+    const SOLVES: usize = 2_000;
     for n in 3..=6 {
         let mut r = Random(0x9E37_79B9_7F4A_7C15);
         let made: Vec<_> = (0..256).map(|_| system(&mut r, 0, n)).collect();
         let vectors: Vec<_> = made.iter().map(|(m, rhs, _)| (rows(m, n), rhs[..n].to_vec())).collect();
         let (mut rust, mut bare, mut port) = (f64::MAX, f64::MAX, f64::MAX);
         let nanos = |t: Instant| t.elapsed().as_nanos() as f64 / SOLVES as f64;
-        for _ in 0..9 {
+        for _ in 0..400 {
             let t = Instant::now();
             for i in 0..SOLVES {
                 let (m, rhs) = &vectors[i % 256];
