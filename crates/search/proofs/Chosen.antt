@@ -1,11 +1,9 @@
 -- What the search found is a cell of one of the passes made, at the point and on the edge that it says. Assumes nothing.
-use mathlib.Core.Path.{_≡_, refl, sym, ap, subst, _∙_}
-use mathlib.Core.Bool.{Bool, true, false, not, _&&_, _||_, cond}
-use Prim.Native.Nat.{ℕ, zero, suc, _+_, _-_, _≤_, _<_}
+use mathlib.Core.Path.{_≡_, refl, sym, subst}
+use mathlib.Core.Bool.{Bool, true, false, _||_, cond}
+use Prim.Native.Nat.{ℕ, _+_, _-_, _≤_, _<_}
 use native.Mathlib.Omega.{arith}
 use lib.Dec.{T}
-use lib.Ieee.{Float}
-use Rattle.cell.specs.declared.Cell.{Cell}
 use Rattle.search.specs.declared.PassBest.{PassBest}
 use Rattle.search.specs.declared.Counts.{Counts}
 use Rattle.search.specs.declared.Found.{Found}

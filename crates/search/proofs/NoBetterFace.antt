@@ -3,10 +3,10 @@ use mathlib.Core.Path.{_≡_, refl, sym, ap, subst, _∙_}
 use mathlib.Core.Logic.{⊎-elim}
 use mathlib.Core.Bool.{Bool, true, false, not, _||_}
 use mathlib.Core.List.{List}
-use Prim.Native.Nat.{ℕ, _+_, _-_, _*_, _≤_, _<_}
+use Prim.Native.Nat.{ℕ, _-_, _≤_, _<_}
 use native.Mathlib.Omega.{arith}
 use lib.Dec.{T}
-use lib.Ieee.{Float, lt, le, isNan}
+use lib.Ieee.{Float, lt, le}
 use Rattle.laws.proofs.Choices.{if-true, cond-ind}
 use Rattle.laws.proofs.Floats.{finite-no-nan}
 use Rattle.laws.proofs.Order.{lt-or, lt-le-trans}
@@ -15,14 +15,14 @@ use Rattle.cell.specs.declared.Cell.{Cell}
 use Rattle.cell.specs.declared.Limits.{Limits}
 use Rattle.cell.specs.declared.Tried.{Tried}
 use Rattle.cell.specs.Cell.{fitModel, inRange, noCell, cellFrom, cellOf, innerOf}
-use Rattle.cell.proofs.Cells.{Beats, First, tried, goal, stated, fit-faces, cell-finite, cell-least, cell-first}
+use Rattle.cell.proofs.Cells.{tried, goal, stated, fit-faces, cell-finite, cell-least, cell-first}
 use Rattle.search.specs.declared.Plan.{Plan}
 use Rattle.search.specs.declared.Search.{Search}
 use Rattle.search.specs.Search.{CellFn, pointAt, anyEdge, afterPasses, limitOf, searchOf}
 use Rattle.search.specs.Run.{fitCell}
-use Rattle.search.proofs.Passes.{AsGood, Proper, Stands}
+use Rattle.search.proofs.Passes.{AsGood, Proper}
 use Rattle.search.proofs.Trail.{some-pass}
-use Rattle.search.proofs.Least.{cellOfPass, Yield, yields, Met, met}
+use Rattle.search.proofs.Least.{cellOfPass, yields, met}
 use Rattle.search.proofs.Chosen.{Chosen, chosen}
 use Rattle.search.proofs.SearchCounts.{Counted, counted}
 

@@ -1,22 +1,21 @@
 -- The five counts are those of the search as defined: as many passes, recentres and shrinks as the settings allow at most; every cell of the grid in every pass;
 -- the faces are the sum over all cells of all passes; the passes counted are those made, a refusing one among them.
-use mathlib.Core.Path.{_≡_, refl, sym, ap, subst, _∙_}
-use mathlib.Core.Bool.{Bool, true, false, _&&_}
+use mathlib.Core.Path.{_≡_, sym, ap, _∙_}
+use mathlib.Core.Bool.{true, _&&_}
 use Prim.Native.Nat.{ℕ, _+_, _*_, _≤_, _<_}
 use native.Mathlib.Omega.{arith}
-use native.Mathlib.Nat.{mul-assoc, mul-comm, mul-one, mul-le-mul, mul-le-mul-right, le-refl, le-trans}
+use native.Mathlib.Nat.{mul-assoc, mul-comm, mul-one, mul-le-mul, le-refl, le-trans}
 use lib.Dec.{leb}
 use borrow.Author.Tests.{leb-true}
 use Rattle.laws.proofs.Choices.{both}
 use lib.Ieee.{Float}
-use Rattle.cell.specs.declared.Cell.{Cell}
 use Rattle.search.specs.declared.Plan.{Plan}
 use Rattle.search.specs.declared.Search.{Search}
 use Rattle.search.specs.Search.{CellFn, afterPasses, limitOf, searchOf}
 use Rattle.search.specs.Run.{sizesHold}
 use Rattle.search.specs.Roomy.{Roomy}
 use Rattle.search.proofs.Sums.{sum, sum-least, sum-most}
-use Rattle.search.proofs.Trail.{Trail, trail}
+use Rattle.search.proofs.Trail.{trail}
 use Rattle.search.proofs.Least.{cellOfPass, Refusal, refusal}
 
 pub record Counted (top : ℕ) (f : CellFn) (p : Plan) (s : Search) : Type 0 where

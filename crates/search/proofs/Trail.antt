@@ -1,25 +1,24 @@
 -- The states of the search, pass after pass: what each pass adds to the counts, and which passes are made. Assumes nothing.
 use mathlib.Core.Path.{_≡_, refl, sym, ap, subst, _∙_}
-use mathlib.Core.Bool.{Bool, true, false, not, _&&_, _||_, cond}
+use mathlib.Core.Bool.{Bool, true, false, _&&_, _||_, cond}
 use Prim.Native.Nat.{ℕ, zero, suc, _+_, _-_, _*_, _≤_, _<_}
 use native.Mathlib.Omega.{arith}
 use native.Mathlib.Numerals.{add-one}
 use native.Mathlib.Nat.{zero-mul, add-mul, one-mul, not-suc-le-zero, eq-or-lt-of-le}
 use mathlib.Core.Logic.{⊎-elim}
-use lib.Dec.{T, ltb}
-use lib.Ieee.{Float, lt}
+use lib.Dec.{ltb}
+use lib.Ieee.{lt}
 use borrow.Author.Tests.{ltb-true}
 use Rattle.laws.specs.Loop.{turns}
 use Rattle.laws.proofs.Loops.{turns-last}
 use Rattle.laws.proofs.Choices.{cond-ind, both, false-true}
-use Rattle.cell.specs.declared.Cell.{Cell}
 use Rattle.search.specs.declared.PassBest.{PassBest}
 use Rattle.search.specs.declared.Counts.{Counts}
 use Rattle.search.specs.declared.Found.{Found}
 use Rattle.search.specs.declared.Place.{Place}
 use Rattle.search.specs.declared.Plan.{Plan}
 use Rattle.search.specs.declared.Search.{Search}
-use Rattle.search.specs.Search.{CellFn, passOf, placeOf, foundOf, improves, width, stepOn, recentred, narrowed, shrunk, stopped, canRecentre, canShrink, movedOf, countedOf, refusedOf, stepOf, startOf, nextOf, afterPasses}
+use Rattle.search.specs.Search.{CellFn, passOf, placeOf, foundOf, improves, width, recentred, narrowed, shrunk, stopped, canRecentre, canShrink, movedOf, countedOf, refusedOf, stepOf, startOf, nextOf, afterPasses}
 use Rattle.search.proofs.Sums.{sum, sum-none, sum-next}
 use Rattle.search.proofs.Passes.{below-next, facesAt, rows-counts}
 

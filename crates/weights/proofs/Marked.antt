@@ -1,7 +1,6 @@
 -- M4 and M5 of document 01.
 use mathlib.Core.Path.{_≡_, refl}
 use mathlib.Core.List.{List, [], _∷_}
-use Prim.Native.Nat.{ℕ}
 use lib.Ieee.{Float, lt, ofBits, add, sub, mul}
 use Rattle.laws.specs.Loop.{turns}
 use Rattle.laws.specs.Floats.{f64, one, two, four}

@@ -2,14 +2,13 @@
 use mathlib.Core.Path.{_≡_, refl, sym, ap, _∙_}
 use mathlib.Core.Bool.{Bool, _&&_, true}
 use mathlib.Core.List.{List, [], _∷_, _++_, map, append-assoc, map-append}
-use Prim.Native.Nat.{ℕ, zero, suc, _+_, _-_, _/_, _≤_, _<_}
+use Prim.Native.Nat.{ℕ, suc, _+_, _-_, _/_, _≤_, _<_}
 use native.Mathlib.Omega.{arith}
 use native.Mathlib.Nat.{sub-zero}
 use native.Mathlib.Numerals.{add-one}
-use lib.ListN.{length, getD, take, drop, set, length-set, length-map, length-drop, List·getD-append}
+use lib.ListN.{length, take, drop, set, length-set, length-map, length-drop, List·getD-append}
 use lib.Seq.{take-suc-set, take-suc, drop-cons, slice, slice-cons, slice-empty, drop-length, take-length, take-at, drop-at, drop-drop, drop-set-lt, set-split, length-take-le}
 use lib.Ieee.{Float, nan}
-use Rattle.laws.specs.Loop.{for}
 use Rattle.laws.specs.Floats.{_*f_, at, positive}
 use Rattle.laws.specs.Room.{atFront}
 use borrow.Author.Tests.{le-leb}

@@ -5,8 +5,8 @@ use mathlib.Core.List.{List, [], _∷_, map}
 use mathlib.Core.Logic.{_⊎_, ⊎-elim}
 use Prim.Native.Nat.{ℕ, zero, suc, _+_, _*_, _≤_, _<_}
 use native.Mathlib.Omega.{arith}
-use native.Mathlib.Nat.{mul-pos, eq-or-lt-of-le, le-of-suc-le-suc, not-suc-le-zero, mul-one, one-mul}
-use lib.Dec.{T, eqb, ltb, leb}
+use native.Mathlib.Nat.{mul-pos, eq-or-lt-of-le, le-of-suc-le-suc, not-suc-le-zero}
+use lib.Dec.{T, eqb, ltb}
 use lib.IntN.{ℤ, pos}
 use lib.ListN.{length, getD, length-map}
 use lib.Ieee.{Float, nan, inf, fin, binary64, up, down, round, div, lt, le, eq, ne, isNan, ofBits, unlike}
@@ -17,10 +17,9 @@ use lib.Ieee.Compare.{differs-from-itself}
 use borrow.Author.Tests.{ltb-true, eqb-true, eqb-false}
 use Rattle.laws.proofs.Signs.{Signed, round-signed}
 use Rattle.laws.proofs.Order.{lt-or, lt→le, le-self, le-trans, lt-le-trans}
-use Rattle.laws.specs.Loop.{turns, for}
 use Rattle.laws.specs.Floats.{+0, one, at, finite, positive, minOf, maxOf}
 use Rattle.laws.proofs.Loops.{for-ind}
-use Rattle.weights.specs.Weights.{goodFirst, allGood, topOf, scaleOne, scaledOf, capOf}
+use Rattle.weights.specs.Weights.{allGood, topOf, scaleOne, scaledOf, capOf}
 
 abbrev over : Float → Float → Float
 over x y = div binary64 x y

@@ -5,7 +5,7 @@ use borrow.Author.Tests.{not-true, not-false}
 use Rattle.search.specs.Search.{afterPasses, limitOf}
 use Rattle.search.specs.Run.{fitCell}
 use Rattle.search.proofs.Trail.{after-start, ended-early, stepped}
-use Rattle.search.proofs.SearchCounts.{Sizes, sizes-are, roomy}
+use Rattle.search.proofs.SearchCounts.{sizes-are, roomy}
 use Rattle.search.proofs.NoBetterFace.{fit-most}
 use borrow.Author.Needs.{needs}
 use native.Mathlib.Omega.{arith}

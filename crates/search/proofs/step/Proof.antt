@@ -1,10 +1,9 @@
 -- `search::step` meets its contract. Assumes nothing.
-use mathlib.Core.Path.{_≡_, ap, sym, _∙_}
-use Prim.Native.Nat.{_*_, _≤_}
+use mathlib.Core.Path.{_≡_, ap, sym}
+use Prim.Native.Nat.{_*_}
 use native.Mathlib.Nat.{le-refl, mul-assoc}
 use Rattle.laws.proofs.Choices.{if-true, if-false}
 use Rattle.search.specs.declared.Counts.{Counts}
-use Rattle.search.specs.declared.PassBest.{PassBest}
 use Rattle.search.specs.Search.{countedOf, passOf, stepOf}
 use Rattle.search.specs.Run.{fitCell}
 use Rattle.search.proofs.Sums.{sum, sum-most}

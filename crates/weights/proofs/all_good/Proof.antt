@@ -1,6 +1,6 @@
 -- `weights::all_good` meets its contract. Assumes nothing.
 use mathlib.Core.Path.{_≡_, refl, ap}
-use mathlib.Core.Bool.{Bool, true, _&&_}
+use mathlib.Core.Bool.{Bool, _&&_}
 use Prim.Native.Nat.{_-_}
 use lib.Ieee.{lt}
 use Rattle.laws.specs.Loop.{for}

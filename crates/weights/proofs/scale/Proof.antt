@@ -1,5 +1,5 @@
 -- `weights::scale` meets its contract. Assumes nothing.
-use mathlib.Core.Path.{_≡_, refl, ap}
+use mathlib.Core.Path.{refl}
 use Prim.Native.Nat.{_-_}
 use lib.ListN.{length}
 use Rattle.weights.specs.Weights.{scaleOne}

@@ -1,5 +1,4 @@
 -- `weights::sort` meets its contract. Assumes nothing.
-use mathlib.Core.Path.{_≡_}
 use Prim.Native.Nat.{_-_}
 use lib.ListN.{length}
 use Rattle.weights.proofs.Places.{Sorting, sort-start, sort-next, sort-end}

@@ -2,7 +2,6 @@
 use mathlib.Core.Path.{_≡_, refl, ap, _∙_}
 use Prim.Native.Nat.{_-_}
 use lib.ListN.{length}
-use lib.Ieee.{Float}
 use Rattle.laws.specs.Loop.{for}
 use Rattle.laws.specs.Floats.{at, minOf, maxOf}
 use Rattle.laws.proofs.Loops.{again, ended}

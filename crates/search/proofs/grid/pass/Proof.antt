@@ -1,8 +1,8 @@
 -- `search::grid::pass` meets its contract. Assumes nothing.
-use mathlib.Core.Path.{_≡_, refl, sym, ap, _∙_}
+use mathlib.Core.Path.{_≡_, sym, ap, _∙_}
 use Rattle.cell.specs.declared.Cell.{Cell}
 use native.Mathlib.Nat.{mul-assoc}
-use Prim.Native.Nat.{_+_, _-_, _*_, _≤_}
+use Prim.Native.Nat.{_-_, _*_, _≤_}
 use Rattle.laws.specs.Loop.{for}
 use Rattle.search.specs.declared.PassBest.{PassBest}
 use Rattle.search.specs.Search.{noBest, rowOf, passOf}

@@ -1,8 +1,7 @@
 -- `search::grid::row` meets its contract. Assumes nothing.
-use mathlib.Core.Path.{_≡_, refl}
+use mathlib.Core.Path.{_≡_}
 use Prim.Native.Nat.{_+_, _-_, _≤_}
 use Rattle.laws.specs.Loop.{for}
-use Rattle.search.specs.declared.PassBest.{PassBest}
 use Rattle.search.specs.Search.{consider, cellAt, rowOf}
 use Rattle.search.specs.Run.{fitCell}
 use Rattle.search.proofs.Sums.{sum, sum-most}

@@ -1,0 +1,58 @@
+-- The contract of `fit_slice`, once for every refusal and once for an accepted fit; and that no second answer meets it. Assumes nothing.
+use mathlib.Core.Path.{_≡_, refl, sym, ap, _∙_}
+use mathlib.Core.List.{List, _++_}
+use Prim.Native.Nat.{ℕ, _*_}
+use lib.ListN.{length, drop}
+use lib.Ieee.{Float}
+use Rattle.laws.specs.Room.{written}
+use Rattle.laws.proofs.Choices.{number-goes}
+use Rattle.laws.proofs.Rooms.{kept, wrote}
+use Rattle.weights.specs.Weights.{cappedAt, cappedOf, capOf, scaledOf}
+use Rattle.calibrate.specs.declared.FitConfig.{FitConfig}
+use Rattle.calibrate.specs.declared.FitAnswer.{FitAnswer}
+use Rattle.calibrate.specs.Entry.{entryNumber}
+use Rattle.calibrate.specs.Fit.{fitOf, decidedOf, cappedAs, residualsOf, Fitted}
+use Rattle.calibrate.proofs.Quads.{residuals-length}
+
+module _ {tau : Float} {c : FitConfig} {ks ws ts o : List Float} {p : List ℕ} {r : FitAnswer} where
+  -- a refusal: nothing is written
+  pub refuses : r ≡ fitOf tau c ks ws ts (length o) (length p) → (r .number ≡ 0 → ⊥) → Fitted tau c ks ws ts o p r o p
+  refuses e h = record { answer = e; left = kept (r .number) _ o h; listed = kept (r .number) _ p h }
+
+  -- an accepted fit d, with m capped: both lists are written
+  pub accepts : (d : FitAnswer) (m : ℕ) (cap : Float) {o′ : List Float} {p′ : List ℕ}
+      → 0 ≡ entryNumber tau c ks ws ts (length o) (length p)
+      → d ≡ decidedOf tau c ks ws (scaledOf (c .«max_weight_ratio») ts)
+      → d .number ≡ 0
+      → r ≡ cappedAs d m
+      → cap ≡ capOf (c .«max_weight_ratio») ts
+      → m ≡ length (cappedAt cap ts)
+      → o′ ≡ residualsOf (d .slice) ks ws ++ drop (length ks * 4) o
+      → p′ ≡ cappedAt cap ts ++ drop m p
+      → Fitted tau c ks ws ts o p r o′ p′
+  unfolding fitOf cappedAs
+  accepts d m cap {o′} {p′} entered e z k f n a b =
+      let s = residualsOf (d .slice) ks ws in
+      let y : r .number ≡ 0 = ap (λ (x : FitAnswer). x .number) k ∙ z in
+      let l : cappedAt cap ts ≡ cappedOf (c .«max_weight_ratio») ts = ap (λ (x : Float). cappedAt x ts) f in
+      let q : m ≡ length (cappedOf (c .«max_weight_ratio») ts) = n ∙ ap length l in
+      record {
+        answer =
+            number-goes _ entered refl
+            (number-goes _ (ap (λ (x : FitAnswer). x .number) e) z
+            (k ∙ ap (λ (x : FitAnswer). cappedAs x m) e ∙ ap (cappedAs (decidedOf tau c ks ws (scaledOf (c .«max_weight_ratio») ts))) q));
+        left =
+            a ∙ ap (λ (x : ℕ). s ++ drop x o) (sym (residuals-length (d .slice) ks ws)) ∙ wrote (r .number) s o y
+            ∙ ap (λ (x : FitAnswer). written (r .number) (residualsOf (x .slice) ks ws) o) (sym k);
+        listed = b ∙ rw (l, q) (wrote (r .number) (cappedOf (c .«max_weight_ratio») ts) p y);
+      }
+
+  -- no second answer: two outcomes, each an answer and the two buffers, that meet the contract for one input are equal
+  pub one-answer : {r₁ : FitAnswer} {o₀ o₁ : List Float} {p₀ p₁ : List ℕ} → Fitted tau c ks ws ts o p r o₀ p₀ → Fitted tau c ks ws ts o p r₁ o₁ p₁
+      → (r ≡ r₁) × (o₀ ≡ o₁) × (p₀ ≡ p₁)
+  one-answer {r₁} x y =
+      let e : r ≡ r₁ = x .answer ∙ sym (y .answer) in (
+        e,
+        x .left ∙ ap (λ (a : FitAnswer). written (a .number) (residualsOf (a .slice) ks ws) o) e ∙ sym (y .left),
+        x .listed ∙ ap (λ (a : FitAnswer). written (a .number) (cappedOf (c .«max_weight_ratio») ts) p) e ∙ sym (y .listed),
+      )

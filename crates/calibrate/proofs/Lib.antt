@@ -1,0 +1,8 @@
+pub mod Known
+pub mod Deciding
+pub mod Quads
+pub mod Listing
+pub mod Contract
+pub mod EachNumber
+pub mod FitCounts
+pub mod NoBetterFit

@@ -1,0 +1,12 @@
+-- `calibrate::ending::rmse_of` meets its contract. Assumes nothing.
+use Rattle.calibrate.specs.End.{rmseOf}
+use borrow.Author.Needs.{needs}
+use Rattle.calibrate.proofs.ending.rmse_of.Statement.{statement}
+use Rattle.calibrate.proofs.ending.rmse_of.Tie as tie
+
+returns : tie.Need-returns
+unfolding rmseOf
+returns c = cc
+
+pub rmse-of-spec : {M : Type 1} → statement M
+rmse-of-spec = tie.close (tie.spec (λ c κs. search needs) (λ c κs. search needs) returns)

@@ -1,0 +1,18 @@
+-- `calibrate::params::level_of` meets its contract. Assumes nothing.
+use borrow.Author.Needs.{needs}
+use Rattle.calibrate.proofs.params.level_of.Statement.{statement}
+use Rattle.calibrate.proofs.params.level_of.Tie as tie
+
+returns : tie.Need-returns
+returns c = cc
+
+pub level-of-spec : {M : Type 1} → statement M
+level-of-spec =
+    tie.close
+    (tie.spec
+    (λ c. search needs)
+    (λ c. search needs)
+    (λ c. search needs)
+    (λ c κs. search needs)
+    (λ c κs. search needs)
+    returns)

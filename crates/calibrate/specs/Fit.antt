@@ -1,0 +1,125 @@
+-- The fit: what `fit_slice` answers, and what it leaves in the two lent buffers. Definitions only.
+use mathlib.Core.Path.{_≡_}
+use mathlib.Core.Bool.{cond}
+use mathlib.Core.List.{List, [], _∷_, _++_}
+use Prim.Native.Nat.{ℕ}
+use lib.Dec.{eqb}
+use lib.ListN.{length}
+use lib.Ieee.{Float}
+use Rattle.laws.specs.Loop.{for}
+use Rattle.laws.specs.Choice.{unless}
+use Rattle.laws.specs.Floats.{_+f_, _-f_, _*f_, +0, half, at}
+use Rattle.laws.specs.Room.{written}
+use Rattle.exponent.specs.Ln.{lnOf}
+use Rattle.exponent.specs.Exp.{expOf}
+use Rattle.slice.specs.declared.KRange.{KRange}
+use Rattle.slice.specs.declared.SviSlice.{SviSlice}
+use Rattle.cell.specs.declared.Limits.{Limits}
+use Rattle.weights.specs.Weights.{scaledOf, cappedOf}
+use Rattle.search.specs.declared.Axis.{Axis}
+use Rattle.search.specs.declared.Plan.{Plan}
+use Rattle.search.specs.declared.Counts.{Counts}
+use Rattle.search.specs.declared.Found.{Found}
+use Rattle.search.specs.declared.Search.{Search}
+use Rattle.search.specs.Search.{searchOf}
+use Rattle.search.specs.Run.{fitCell}
+use Rattle.calibrate.specs.declared.FitConfig.{FitConfig}
+use Rattle.calibrate.specs.declared.FitAnswer.{FitAnswer}
+use Rattle.calibrate.specs.Entry.{rangeOf, entryNumber}
+use Rattle.calibrate.specs.End.{noCounts, refusedWith, marksAt, sliceOf, residualAt, highestOf, endOf}
+
+-- ---- the search: m from k_min - R to k_max + R, ln sigma from ln (sigma_lo R) to ln (sigma_hi R), R = k_max - k_min
+
+abbrev pub halfOf : Axis → Float
+halfOf a = half *f (a .hi -f a .lo)
+
+unfoldable pub planOf : FitConfig → KRange → Plan
+planOf c range =
+    let span = range .hi -f range .lo in
+    let m : Axis = record { lo = range .lo -f span; hi = range .hi +f span } in
+    let s : Axis = record { lo = lnOf (c .«sigma_lo» *f span); hi = lnOf (c .«sigma_hi» *f span) } in
+    record {
+      n = c .grid;
+      refinements = c .refinements;
+      «max_recentres» = c .«max_recentres»;
+      domain = record { m = m; s = s };
+      «hm_max» = halfOf m;
+      «hs_max» = halfOf s;
+    }
+
+-- what the fit fixes for all its cells
+unfoldable pub limitsOf : FitConfig → Float → Limits
+limitsOf c «a_max» =
+    record { «a_min» = c .«a_min»; «a_max» = «a_max»; «pivot_tolerance» = c .«pivot_tolerance»; «feasibility_tolerance» = c .«feasibility_tolerance» }
+
+-- the search of observations k, w with the scaled weights t
+unfoldable pub fitSearch : FitConfig → List Float → List Float → List Float → Search
+fitSearch c ks ws ts = searchOf (fitCell ks ws ts (limitsOf c (highestOf ws (c .«a_min»)))) (planOf c (rangeOf ks))
+
+-- ---- 6 to 9, or an accepted fit, from what the search found
+
+-- the end at the best cell
+unfoldable pub bestEnd : Float → FitConfig → KRange → Float → Found → Counts → List Float → List Float → List Float → FitAnswer
+bestEnd tau c range «a_max» best counts ks ws ts =
+    let sigma = expOf (best .ls) in
+    let active = marksAt c «a_max» sigma (best .cell) in
+    endOf c counts «a_max» (best .cell .objective) active (sliceOf tau range active (best .cell .x) (best .m) sigma (c .«a_min») «a_max») ks ws ts
+
+-- 6, no qualifying face in some pass; 7, the best point on any edge of its pass's grid
+unfoldable pub searchEnd : Float → FitConfig → KRange → Float → Search → List Float → List Float → List Float → FitAnswer
+searchEnd tau c range «a_max» s ks ws ts =
+    cond (s .refused) (refusedWith 6 0 0 +0 +0 (s .counts))
+    (cond (s .found .«on_edge») (refusedWith 7 0 0 +0 +0 (s .counts))
+    (bestEnd tau c range «a_max» (s .found) (s .counts) ks ws ts))
+
+-- the answer of a fit that passed the entry checks, but for its capped positions
+unfoldable pub decidedOf : Float → FitConfig → List Float → List Float → List Float → FitAnswer
+decidedOf tau c ks ws ts = searchEnd tau c (rangeOf ks) (highestOf ws (c .«a_min»)) (fitSearch c ks ws ts) ks ws ts
+
+-- ---- the whole
+
+-- a refusal before the search: 3 with the observations given and wanted
+abbrev pub refusedEarly : ℕ → ℕ → ℕ → FitAnswer
+refusedEarly number given wanted = refusedWith number (cond (eqb number 3) given 0) (cond (eqb number 3) wanted 0) +0 +0 noCounts
+
+unfoldable pub cappedAs : FitAnswer → ℕ → FitAnswer
+cappedAs a n =
+    record {
+      number = a .number;
+      observed = a .observed;
+      required = a .required;
+      «rmse_vol» = a .«rmse_vol»;
+      «max_rmse_vol» = a .«max_rmse_vol»;
+      slice = a .slice;
+      objective = a .objective;
+      «objective_params» = a .«objective_params»;
+      «lee_margin» = a .«lee_margin»;
+      «a_margin» = a .«a_margin»;
+      active = a .active;
+      counts = a .counts;
+      capped = n;
+    }
+
+-- the answer: of observations (k, w, weight) in ks, ws, ts, with room for so many residual numbers and capped positions
+unfoldable pub fitOf : Float → FitConfig → List Float → List Float → List Float → ℕ → ℕ → FitAnswer
+fitOf tau c ks ws ts room slots =
+    let number = entryNumber tau c ks ws ts room slots in
+    let decided = decidedOf tau c ks ws (scaledOf (c .«max_weight_ratio») ts) in
+    unless (eqb number 0) (refusedEarly number (length ks) (c .«min_observations»))
+    (unless (eqb (decided .number) 0) decided
+    (cappedAs decided (length (cappedOf (c .«max_weight_ratio») ts))))
+
+-- ---- the buffers
+
+-- (k, observed w, fitted w, vol residual) of each observation, in input order
+unfoldable pub residualsOf : SviSlice → List Float → List Float → List Float
+residualsOf s ks ws =
+    for 0 (length ks)
+    (λ i l. let r = residualAt s (at ks i) (at ws i) in l ++ (at ks i ∷ at ws i ∷ r .fitted ∷ r .vol ∷ [])) []
+
+-- the contract of `fit_slice`: the answer r; an accepted one writes its residuals and its capped positions, a refusal nothing
+pub record Fitted
+    (tau : Float) (c : FitConfig) (ks ws ts residuals : List Float) (capped : List ℕ) (r : FitAnswer) (residuals′ : List Float) (capped′ : List ℕ) : Type 0 where
+  pub answer : r ≡ fitOf tau c ks ws ts (length residuals) (length capped)
+  pub left : residuals′ ≡ written (r .number) (residualsOf (r .slice) ks ws) residuals
+  pub listed : capped′ ≡ written (r .number) (cappedOf (c .«max_weight_ratio») ts) capped

@@ -1,0 +1,5 @@
+pub mod Settings
+pub mod Entry
+pub mod End
+pub mod Fit
+pub mod Sized

@@ -1,0 +1,236 @@
+// The end of the fit: the residuals' sums, and the answer.
+ghost use mathlib.Core.Path.{_≡_};
+ghost use lib.ListN.{length};
+ghost use Rattle.slice.specs.Slice.{evalRaw};
+ghost use Rattle.calibrate.specs.End.{refusedWith, readingOf, residualAt, addedTo, sumsOf, rmseOf, paramsHold, acceptedOf, rmseHolds, endOf};
+ghost use Rattle.calibrate.specs.Fit.{bestEnd, searchEnd};
+use crate::FitAnswer;
+use crate::FitConfig;
+use crate::Reading;
+use crate::Residual;
+use crate::Sums;
+use crate::params;
+use cell::Cell;
+use cell::polytope;
+use search::Counts;
+use search::Found;
+use search::Search;
+use slice::Evaluated;
+use slice::KRange;
+use slice::SviSlice;
+
+// Zeros but for what is handed in.
+pub(crate) fn refusal(
+    number: u32,
+    observed: usize,
+    required: usize,
+    rmse: f64,
+    max: f64,
+    counts: Counts,
+) -> FitAnswer
+    ensures { λ r. ⌜ r ≡ refusedWith number observed required rmse max counts ⌝ }
+{
+    FitAnswer {
+        number,
+        observed,
+        required,
+        rmse_vol: rmse,
+        max_rmse_vol: max,
+        slice: SviSlice {
+            tau: 0.0,
+            a: 0.0,
+            b: 0.0,
+            rho: 0.0,
+            m: 0.0,
+            sigma: 0.0,
+            k_range: KRange { lo: 0.0, hi: 0.0 },
+        },
+        objective: 0.0,
+        objective_params: 0.0,
+        lee_margin: 0.0,
+        a_margin: 0.0,
+        active: [false; 7],
+        counts,
+        capped: 0,
+    }
+}
+
+// ---- the residuals
+
+fn reading_at(s: SviSlice, k: f64) -> Reading
+    ensures { λ r. ⌜ r ≡ readingOf (evalRaw s k) ⌝ }
+{
+    let e = slice::eval_tested(s, k);
+    match e {
+        Evaluated::At(v) => Reading { ok: true, w: v.w },
+        Evaluated::Refused(_) => Reading { ok: false, w: 0.0 },
+    }
+}
+
+pub(crate) fn residual_at(s: SviSlice, k: f64, w: f64) -> Residual
+    ensures { λ r. ⌜ r ≡ residualAt s k w ⌝ }
+{
+    let e = reading_at(s, k);
+    Residual {
+        ok: e.ok,
+        fitted: e.w,
+        vol: roots::sqrt(w / s.tau) - roots::sqrt(e.w / s.tau),
+    }
+}
+
+fn added(t: Sums, r: Residual, w: f64, weight: f64) -> Sums
+    ensures { λ z. ⌜ z ≡ addedTo t r w weight ⌝ }
+{
+    let d = r.fitted - w;
+    Sums {
+        ok: t.ok & r.ok,
+        squares: t.squares + r.vol * r.vol,
+        params: t.params + weight * d * d,
+        weight: t.weight + weight,
+    }
+}
+
+fn sums_of(s: SviSlice, k: &[f64], w: &[f64], ts: &[f64]) -> Sums
+    requires { ⌜ (length (now w) ≡ length (now k)) × (length (now ts) ≡ length (now k)) ⌝ }
+    ensures { λ r. ⌜ r ≡ sumsOf s (now (k .entry)) (now (w .entry)) (now (ts .entry)) ⌝ }
+{
+    let mut t = Sums {
+        ok: true,
+        squares: 0.0,
+        params: 0.0,
+        weight: 0.0,
+    };
+    for i in 0..k.len() {
+        t = added(t, residual_at(s, k[i], w[i]), w[i], ts[i]);
+    }
+    t
+}
+
+fn params_hold(config: FitConfig, a_max: f64, objective: f64, t: Sums) -> bool
+    ensures { λ r. ⌜ r ≡ paramsHold config «a_max» objective t ⌝ }
+{
+    let allowed = 1e-9 * objective + config.feasibility_tolerance * t.weight * a_max * a_max;
+    t.ok & bits::is_finite(t.params) & (t.params <= objective + allowed)
+}
+
+fn rmse_of(t: Sums, n: usize) -> f64
+    ensures { λ r. ⌜ r ≡ rmseOf t n ⌝ }
+{
+    roots::sqrt(t.squares / std::num::nearest_u64_to_f64(n as u64))
+}
+
+fn rmse_holds(config: FitConfig, rmse: f64) -> bool
+    ensures { λ r. ⌜ r ≡ rmseHolds config rmse ⌝ }
+{
+    bits::is_finite(rmse) & (rmse <= config.max_rmse_vol)
+}
+
+// ---- the answer
+
+fn accepted(
+    config: FitConfig,
+    counts: Counts,
+    objective: f64,
+    active: [bool; 7],
+    s: SviSlice,
+    params: f64,
+    rmse: f64,
+) -> FitAnswer
+    ensures { λ r. ⌜ r ≡ acceptedOf config counts objective active s params rmse ⌝ }
+{
+    let steep = slice::lee(s);
+    FitAnswer {
+        number: 0,
+        observed: 0,
+        required: 0,
+        rmse_vol: rmse,
+        max_rmse_vol: 0.0,
+        slice: s,
+        objective,
+        objective_params: params,
+        lee_margin: SviSlice::LEE_SLOPE_BOUND - steep,
+        a_margin: s.a - config.a_min,
+        active,
+        counts,
+        capped: 0,
+    }
+}
+
+// 8, 9, or an accepted fit.
+fn end(
+    config: FitConfig,
+    counts: Counts,
+    a_max: f64,
+    objective: f64,
+    active: [bool; 7],
+    s: SviSlice,
+    k: &[f64],
+    w: &[f64],
+    ts: &[f64],
+) -> FitAnswer
+    requires { ⌜ (length (now w) ≡ length (now k)) × (length (now ts) ≡ length (now k)) ⌝ }
+    ensures { λ r. ⌜ r ≡ endOf config counts «a_max» objective active s (now (k .entry)) (now (w .entry)) (now (ts .entry)) ⌝ }
+{
+    let bad = slice::number(s);
+    if bad != 0 {
+        return refusal(8, 0, 0, 0.0, 0.0, counts);
+    }
+    let t = sums_of(s, k, w, ts);
+    let near = params_hold(config, a_max, objective, t);
+    if !near {
+        return refusal(8, 0, 0, 0.0, 0.0, counts);
+    }
+    let rmse = rmse_of(t, k.len());
+    let small = rmse_holds(config, rmse);
+    if !small {
+        return refusal(9, 0, 0, rmse, config.max_rmse_vol, counts);
+    }
+    accepted(config, counts, objective, active, s, t.params, rmse)
+}
+
+fn best_end(
+    tau: f64,
+    config: FitConfig,
+    range: KRange,
+    a_max: f64,
+    best: Found,
+    counts: Counts,
+    k: &[f64],
+    w: &[f64],
+    ts: &[f64],
+) -> FitAnswer
+    requires { ⌜ (length (now w) ≡ length (now k)) × (length (now ts) ≡ length (now k)) ⌝ }
+    ensures { λ r. ⌜ r ≡ bestEnd tau config range «a_max» best counts (now (k .entry)) (now (w .entry)) (now (ts .entry)) ⌝ }
+{
+    let cell = best.cell;
+    let x = cell.x;
+    let sigma = exponent::exp(best.ls);
+    let active = params::marks_at(config, a_max, sigma, cell);
+    let s = params::slice_of(tau, range, active, x, best.m, sigma, config.a_min, a_max);
+    end(config, counts, a_max, cell.objective, active, s, k, w, ts)
+}
+
+// 6, 7, or the end at the best cell.
+pub(crate) fn search_end(
+    tau: f64,
+    config: FitConfig,
+    range: KRange,
+    a_max: f64,
+    s: Search,
+    k: &[f64],
+    w: &[f64],
+    ts: &[f64],
+) -> FitAnswer
+    requires { ⌜ (length (now w) ≡ length (now k)) × (length (now ts) ≡ length (now k)) ⌝ }
+    ensures { λ r. ⌜ r ≡ searchEnd tau config range «a_max» s (now (k .entry)) (now (w .entry)) (now (ts .entry)) ⌝ }
+{
+    let counts = s.counts;
+    if s.refused {
+        return refusal(6, 0, 0, 0.0, 0.0, counts);
+    }
+    let best = s.found;
+    if best.on_edge {
+        return refusal(7, 0, 0, 0.0, 0.0, counts);
+    }
+    best_end(tau, config, range, a_max, best, counts, k, w, ts)
+}

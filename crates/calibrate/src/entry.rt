@@ -1,0 +1,111 @@
+// The entry checks that come before the weights, and what they read off the observations.
+ghost use mathlib.Core.Path.{_≡_};
+ghost use lib.ListN.{length};
+ghost use Rattle.calibrate.specs.Entry.{lengthsHold, sizesHold, allPass, rangeOf, spanOf, checksNumber};
+ghost use Rattle.calibrate.specs.End.{highestOf};
+use crate::FitConfig;
+use slice::KRange;
+
+fn lengths_hold(k: &[f64], w: &[f64], weight: &[f64], room: usize, slots: usize) -> bool
+    ensures { λ r. ⌜ r ≡ lengthsHold (now (k .entry)) (now (w .entry)) (now (weight .entry)) room slots ⌝ }
+{
+    let n = k.len();
+    (n == w.len()) & (n == weight.len()) & (n * 4 <= room) & (n <= slots)
+}
+
+fn sizes_hold(n: usize, config: FitConfig) -> bool
+    ensures { λ r. ⌜ r ≡ sizesHold n config ⌝ }
+{
+    (n <= 256)
+        & (config.grid <= 255)
+        & (config.refinements <= 1000)
+        & (config.max_recentres <= 1000)
+}
+
+fn all_pass(k: &[f64], w: &[f64], weight: &[f64]) -> bool
+    requires { ⌜ (length (now w) ≡ length (now k)) × (length (now weight) ≡ length (now k)) ⌝ }
+    ensures { λ r. ⌜ r ≡ allPass (now (k .entry)) (now (w .entry)) (now (weight .entry)) ⌝ }
+{
+    let mut ok = true;
+    for i in 0..k.len() {
+        ok = ok & crate::passes(k[i], w[i], weight[i]);
+    }
+    ok
+}
+
+// The least and the largest k.
+pub(crate) fn range_of(k: &[f64]) -> KRange
+    ensures { λ r. ⌜ r ≡ rangeOf (now (k .entry)) ⌝ }
+{
+    let mut t = KRange {
+        lo: 1.0 / 0.0,
+        hi: -(1.0 / 0.0),
+    };
+    for i in 0..k.len() {
+        t = KRange {
+            lo: bits::min(t.lo, k[i]),
+            hi: bits::max(t.hi, k[i]),
+        };
+    }
+    t
+}
+
+fn span_of(k: &[f64]) -> f64
+    ensures { λ r. ⌜ r ≡ spanOf (now (k .entry)) ⌝ }
+{
+    let t = range_of(k);
+    t.hi - t.lo
+}
+
+// The largest w, or a_min if that is larger.
+pub(crate) fn highest(w: &[f64], a_min: f64) -> f64
+    ensures { λ r. ⌜ r ≡ highestOf (now (w .entry)) «a_min» ⌝ }
+{
+    let mut t = a_min;
+    for i in 0..w.len() {
+        t = bits::max(t, w[i]);
+    }
+    t
+}
+
+// The number of the first of the checks 12, 11, 10, 1, 2, 3, 4 that fails, or 0.
+pub(crate) fn checks(
+    tau: f64,
+    config: FitConfig,
+    k: &[f64],
+    w: &[f64],
+    weight: &[f64],
+    room: usize,
+    slots: usize,
+) -> u32
+    ensures { λ r. ⌜ r ≡ checksNumber tau config (now (k .entry)) (now (w .entry)) (now (weight .entry)) room slots ⌝ }
+{
+    let lengths = lengths_hold(k, w, weight, room, slots);
+    if !lengths {
+        return 12;
+    }
+    let sizes = sizes_hold(k.len(), config);
+    if !sizes {
+        return 11;
+    }
+    let observations = all_pass(k, w, weight);
+    if !observations {
+        return 10;
+    }
+    let settings = config.validate();
+    if !settings {
+        return 1;
+    }
+    let expiry = crate::is_positive(tau);
+    if !expiry {
+        return 2;
+    }
+    if k.len() < config.min_observations {
+        return 3;
+    }
+    let wide = crate::is_positive(span_of(k));
+    if !wide {
+        return 4;
+    }
+    0
+}
