@@ -14,9 +14,10 @@ use lib.ListN.{length}
 use Rattle.laws.specs.Loop.{for}
 use Rattle.diagnostics.specs.declared.report.DiagnosticsConfig.{DiagnosticsConfig}
 use Rattle.diagnostics.specs.Walk.{State, standing, visitOf, PointFn, rowTurn, rowOf, walkTurn}
-use Rattle.diagnostics.specs.Diagnostics.{diagnoseNumber, toleranceNumber, reportOf, reported, outcome}
+use Rattle.diagnostics.specs.Diagnostics.{Outcome, diagnoseNumber, reportOf, reported, outcome}
 use Rattle.diagnostics.specs.declared.report.SurfaceDiagnostics.{SurfaceDiagnostics}
-use Rattle.diagnostics.specs.declared.report.Diagnosed.the-variants.{Done, Refused}
+use Rattle.diagnostics.specs.declared.report.Diagnosed.{Diagnosed}
+use Rattle.diagnostics.specs.declared.report.Diagnosed.the-variants.{Done}
 use Rattle.surface.specs.declared.types.Run.{Run}
 
 pub same-walk : {a b : Walk} {l : List Float} → a ≡ b → standing a l ≡ standing b l
@@ -92,3 +93,7 @@ room-enough run ks axis tol room {r} e z = ltb-false room (3 * (length ks * leng
 pub report-is : {w : Walk} {room : List Float} {rep : SurfaceDiagnostics} {st : State} → rep ≡ reportOf w → standing w room ≡ st → outcome (Done rep) room ≡ reported st
 unfolding reported
 report-is {w} {room} e h = ap (λ (r : SurfaceDiagnostics). outcome (Done r) room) e ∙ ap reported h
+
+-- an outcome's two halves
+pub halves : (o : Outcome) {d : Diagnosed} {zs : List Float} → outcome d zs ≡ o → (d ≡ o .answer) × (zs ≡ o .room)
+halves o e = (ap (λ (x : Outcome). x .answer) e, ap (λ (x : Outcome). x .room) e)

@@ -6,7 +6,7 @@ pub mod report; // the tests before it, and the report
 
 ghost use mathlib.Core.Path.{_≡_};
 ghost use Rattle.surface.specs.Runs.{runOf};
-ghost use Rattle.diagnostics.specs.Diagnostics.{outcome, diagnoseOf};
+ghost use Rattle.diagnostics.specs.Diagnostics.{diagnoseOf};
 use report::Diagnosed;
 use report::DiagnosticsConfig;
 use slice::SviSlice;
@@ -21,7 +21,7 @@ pub fn diagnose(
     config: DiagnosticsConfig,
     room: &mut [f64],
 ) -> Diagnosed
-    ensures { λ r. ⌜ outcome r (now (room .exit)) ≡ diagnoseOf (runOf (now (slices .entry))) policy (now (ks .entry)) (now (taus .entry)) config (now (room .entry)) ⌝ }
+    ensures { λ r. ⌜ (r ≡ diagnoseOf (runOf (now (slices .entry))) policy (now (ks .entry)) (now (taus .entry)) config (now (room .entry)) .answer) × (now (room .exit) ≡ diagnoseOf (runOf (now (slices .entry))) policy (now (ks .entry)) (now (taus .entry)) config (now (room .entry)) .room) ⌝ }
 {
     report::diagnose_run(surface::copied(slices), policy, ks, taus, config, room)
 }

@@ -2,7 +2,7 @@
 ghost use mathlib.Core.Path.{_≡_};
 ghost use Prim.Native.Nat.{_*_};
 ghost use lib.Dec.{ltb};
-ghost use Rattle.diagnostics.specs.Diagnostics.{defaultConfig, toleranceNumber, diagnoseNumber, reportOf, reportClean, outcome, diagnoseOf};
+ghost use Rattle.diagnostics.specs.Diagnostics.{defaultConfig, toleranceNumber, diagnoseNumber, reportOf, reportClean, diagnoseOf};
 use crate::grid::Walk;
 use crate::tally::Check;
 use surface::types::Run;
@@ -107,7 +107,7 @@ pub fn diagnose_run(
     tol: DiagnosticsConfig,
     room: &mut [f64],
 ) -> Diagnosed
-    ensures { λ r. ⌜ outcome r (now (room .exit)) ≡ diagnoseOf run policy (now (ks .entry)) (now (axis .entry)) tol (now (room .entry)) ⌝ }
+    ensures { λ r. ⌜ (r ≡ diagnoseOf run policy (now (ks .entry)) (now (axis .entry)) tol (now (room .entry)) .answer) × (now (room .exit) ≡ diagnoseOf run policy (now (ks .entry)) (now (axis .entry)) tol (now (room .entry)) .room) ⌝ }
 {
     let bad = diagnose_number(run, ks, axis, tol, room.len());
     if bad == 0 {

@@ -39,7 +39,7 @@ use denote.Triple.Spec.{Meets, tripleOf}
 use denote.Triple.Table.{entered, cited}
 use denote.Triple.Walked.{says, Stays, stay-none, stay-none-slice, gave-slice, walkOf, goes-none, goes-none-slice, goes-gave-slice, Walks, ends-at, walked, walk-meets}
 use denote.Exit.{yes}
-use Rattle.diagnostics.specs.Diagnostics.{outcome, diagnoseOf}
+use Rattle.diagnostics.specs.Diagnostics.{diagnoseOf}
 use Rattle.surface.specs.Runs.{runOf}
 use Rattle.diagnostics.specs.declared.report.Diagnosed.{Diagnosed}
 use Rattle.diagnostics.proofs.report.Diagnosed as B
@@ -135,7 +135,7 @@ module _ {M : Type 1} (𝓤 : URA M) (H : Heap 𝓤) (A : Atoms 𝓤) (W : Given
       nothing ! $ move ! (3 ∷ 0 ∷ []) $ join ! $ move ! (2 ∷ 0 ∷ []) $ join ! $ move ! (2 ∷ 0 ∷ []) $ join ! $ join ! $ frame ! $ done !
 
   abbrev Said : Run → Diagnosed → List Float → Type 0
-  Said r d zs = outcome d zs ≡ diagnoseOf r p (k .now) (y .now) t (x .now)
+  Said r d zs = (d ≡ diagnoseOf r p (k .now) (y .now) t (x .now) .answer) × (zs ≡ diagnoseOf r p (k .now) (y .now) t (x .now) .room)
 
   exits : (d : Diagnosed) (u : Val) (zs : List Float) → length zs ≡ length (x .now) → Said (runOf (s .now)) d zs
       → ent 𝓤 (⋆ 𝓤 H A (‵ (B.the-row .own d (u ∷ [])) ∷ ‵ (flft κ q) ∷ ‵ (flft κ1 q1) ∷ ‵ (flft κ2 q2) ∷ ‵ (flft κ3 q3) ∷ ‵ OwnS ∷ ‵ OwnK ∷ ‵ OwnY ∷ ‵ (finally f64 (x .name) zs) ∷ [])) (Post u)
@@ -186,7 +186,7 @@ module _ {M : Type 1} (𝓤 : URA M) (H : Heap 𝓤) (A : Atoms 𝓤) (W : Given
         move ! (24 ∷ 25 ∷ []) $ free1 ! $ move ! (22 ∷ 23 ∷ []) $ free1 ! $ move ! (20 ∷ 21 ∷ []) $ free1 ! $ move ! (18 ∷ 19 ∷ []) $ free1 ! $ move ! (16 ∷ 17 ∷ []) $ free1 ! $ move ! (14 ∷ 15 ∷ []) $ free1 ! $ move ! (12 ∷ 13 ∷ []) $ free1 ! $ move ! (10 ∷ 11 ∷ []) $ free1 ! $ move ! (8 ∷ 9 ∷ []) $ free1 ! $ move ! (6 ∷ 7 ∷ []) $ free1 ! $ free0 ! $
         -- [the result; the tokens; x's last list; true; the first token; s; y; k]
         move ! (1 ∷ []) $ split ! $ move ! (1 ∷ []) $ split ! $ move ! (1 ∷ []) $ split ! $ keep ! (4 ∷ 7 ∷ 3 ∷ 2 ∷ 0 ∷ 8 ∷ 10 ∷ 9 ∷ 5 ∷ []) $
-        by ! (exits d w (ws .1 .1 .1 .1 .1 .0) l (e′ ∙ ap (λ (z : Run). diagnoseOf z p (k .now) (y .now) t (x .now)) e)))))))))))))))))))
+        by ! (exits d w (ws .1 .1 .1 .1 .1 .0) l (e′ .0 ∙ ap (λ (z : Run). diagnoseOf z p (k .now) (y .now) t (x .now) .answer) e, e′ .1 ∙ ap (λ (z : Run). diagnoseOf z p (k .now) (y .now) t (x .now) .room) e)))))))))))))))))))
 
 module _ {M : Type 1} (𝓤 : URA M) (H : Heap 𝓤) (A : Atoms 𝓤) (W : Given 𝓤 H A) (mem : Memory → SProp 𝓤) (run : Routine → Fun 𝓤) (𝓣 : Tables 𝓤 H) (known-copied : Triple 𝓤 (𝓣 .C #copied) (Copied 𝓤 H A mem run)) (known-does : Triple 𝓤 (𝓣 .C #does) (Does 𝓤 H A mem run)) where
   walks : Walks 𝓤 H A this.ended stayed (WpFn 𝓤 H (𝓣 .C) (𝓣 .Λ) code.function) (this.clauses 𝓤 H A mem run)
