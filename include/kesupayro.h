@@ -121,8 +121,8 @@ PortFitAnswer port_fit_slice(double tau, PortFitConfig config,
                          size_t *capped, size_t capped_count);
 
 /* Answers a house file as the program prints it: repeats are dropped, then the rest is fitted. Returns the length of the whole answer, and writes it
- * where the room is at least that; else nothing is written. PORT_MOST_ANSWER bytes are room for every answer. */
-#define PORT_MOST_ANSWER 20480
+ * where the room is at least that; else nothing is written. PORT_MOST_ANSWER bytes are room for every answer (proved). */
+#define PORT_MOST_ANSWER 32768
 size_t port_run(const uint8_t *file, size_t file_count, uint8_t *out, size_t out_count);
 
 /* ---- one slice. A slice handed over is tested first: 21, then 22 to 28. */

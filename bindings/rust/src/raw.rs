@@ -3,7 +3,7 @@
 use crate::c;
 
 /// Bytes that hold every answer of [`run`].
-pub const MOST_ANSWER: usize = 20480;
+pub const MOST_ANSWER: usize = 32768;
 
 /// The range of k of a slice.
 #[repr(C)]
