@@ -6,7 +6,7 @@
 
 /* A file is at most 8,300 bytes; one byte more shows that it is longer. */
 static uint8_t file[8301];
-static uint8_t out[KESUPAYRO_MOST_ANSWER];
+static uint8_t out[PORT_MOST_ANSWER];
 
 int main(void)
 {

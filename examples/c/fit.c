@@ -12,7 +12,7 @@ static const double vols[QUOTES] = {0.355, 0.304, 0.252, 0.258, 0.209, 0.228, 0.
 static const double forward = 100, tau = 0.25;
 
 /* Implied volatility of a fitted slice at k. */
-static double vol_at(SviSlice s, double k)
+static double vol_at(PortSviSlice s, double k)
 {
     double x = k - s.m;
     return sqrt((s.a + s.b * (s.rho * x + hypot(x, s.sigma))) / s.tau);
@@ -28,9 +28,9 @@ int main(void)
         weight[i] = 1;
     }
 
-    FitAnswer answer = port_fit_slice(tau, port_default_config(), k, QUOTES, w, QUOTES, weight, QUOTES,
+    PortFitAnswer answer = port_fit_slice(tau, port_default_config(), k, QUOTES, w, QUOTES, weight, QUOTES,
                                       residuals, 4 * QUOTES, capped, QUOTES);
-    if (answer.number != KESUPAYRO_FITTED) {
+    if (answer.number != PORT_FITTED) {
         printf("refused: %u\n", (unsigned)answer.number);
         return 1;
     }

@@ -321,6 +321,15 @@ fn line(out: &mut String, name: &str, words: impl IntoIterator<Item = String>) {
 
 /// The answer to a house file as document 01 prints it. Panics where the two copies of the Rust differ.
 pub fn answer(file: &[u8]) -> Answer {
+    answered(file, without_repeats)
+}
+
+/// The same with every repeat weighed as a quote of its own: what the Rust makes of a file that nobody cleaned.
+pub fn answer_with_repeats(file: &[u8]) -> Answer {
+    answered(file, <[Record]>::to_vec)
+}
+
+fn answered(file: &[u8], kept: impl Fn(&[Record]) -> Vec<Record>) -> Answer {
     let Some(house) = read(file) else {
         return Answer { number: 43, text: "refused 43 0 0\n".to_string() };
     };
@@ -332,7 +341,7 @@ pub fn answer(file: &[u8]) -> Answer {
     if !house.records.iter().all(good) {
         return early(10);
     }
-    let kept = without_repeats(&house.records);
+    let kept = kept(&house.records);
     let plain = fit_plain(house.tau, &kept, house.settings.as_ref());
     counts::take();
     let counted = fit_counted(house.tau, &kept, house.settings.as_ref());

@@ -164,7 +164,7 @@ def head(picture, name, house, answer):
     picture.text(22 + wide + 14, 44, tau, 19, GREY)
     sentence = words.verdict(answer).split(": ", 1)[1]
     y = picture.paragraph(22, 88, sentence[0].upper() + sentence[1:], 22, INK, "bold")
-    y = picture.paragraph(22, y, name, 17, GREY)
+    y = picture.paragraph(22, y, name if len(name) <= 90 else name[:88] + "..", 17, GREY)
     if house:
         for line in repeats_in_words(house):
             y = picture.paragraph(22, y + 2, line, 19, REPEAT, "bold")

@@ -1,6 +1,6 @@
-//! Safe functions over Kesupayro's proved library (include/kesupayro.h): fit the smile of one expiry.
+//! Safe functions over Kesupayro's proved library (include/kesupayro.h): fit the smile of one expiry, put expiries together to a surface.
 //!
-//! [`fit`] is the one to start with: it drops repeated quotes, as the program does. The functions of [`raw`] are the library's own, one for one.
+//! [`fit`] is the one to start with: it drops repeated quotes, as the program does. [`surface`] prices off fitted slices, [`raw`] has the fit itself.
 //! Rust's references rule out the two things a C caller has to vouch for, so nothing here is unsafe to call.
 //!
 //! ```
@@ -12,7 +12,9 @@
 #![deny(missing_docs)]
 
 mod answer;
+mod c;
 pub mod raw;
+pub mod surface;
 
 pub use answer::{Fit, Point, Refused};
 pub use raw::{Counts, FitConfig, KRange, SviSlice};

@@ -1,34 +1,9 @@
-//! The library's own functions and records, one for one. They neither allocate nor block nor keep a reference.
+//! The fit, the program's answer and the elementary functions, as the library has them. They neither allocate nor block nor keep a reference.
 
-mod c {
-    use super::{FitAnswer, FitConfig};
-
-    extern "C" {
-        pub fn port_sqrt(x: f64) -> f64;
-        pub fn port_hypot(x: f64, y: f64) -> f64;
-        pub fn port_ln(x: f64) -> f64;
-        pub fn port_exp(x: f64) -> f64;
-        pub fn port_default_config() -> FitConfig;
-        pub fn port_run(file: *const u8, file_count: usize, out: *mut u8, out_count: usize) -> usize;
-        pub fn port_fit_slice(
-            tau: f64,
-            config: FitConfig,
-            k: *const f64,
-            k_count: usize,
-            w: *const f64,
-            w_count: usize,
-            weight: *const f64,
-            weight_count: usize,
-            residuals: *mut f64,
-            residuals_count: usize,
-            capped: *mut usize,
-            capped_count: usize,
-        ) -> FitAnswer;
-    }
-}
+use crate::c;
 
 /// Bytes that hold every answer of [`run`].
-pub const MOST_ANSWER: usize = 20480;
+pub const MOST_ANSWER: usize = 32768;
 
 /// The range of k of a slice.
 #[repr(C)]
@@ -180,4 +155,45 @@ pub fn fit_slice(tau: f64, config: FitConfig, k: &[f64], w: &[f64], weight: &[f6
             capped.len(),
         )
     }
+}
+
+/// What a fit fixes for all points of its search.
+#[repr(C)]
+#[derive(Debug, Clone, Copy, PartialEq)]
+#[allow(missing_docs)]
+pub struct Limits {
+    pub a_min: f64,
+    pub a_max: f64,
+    pub pivot_tolerance: f64,
+    pub feasibility_tolerance: f64,
+}
+
+/// One point of the search.
+#[repr(C)]
+#[derive(Debug, Clone, Copy, PartialEq)]
+pub struct Cell {
+    /// Whether a face qualifies.
+    pub some: bool,
+    /// Objective of the best face.
+    pub objective: f64,
+    /// Its a, d and c.
+    pub x: [f64; 3],
+    /// Its constraints.
+    pub active: [bool; 7],
+    /// Faces tried.
+    pub faces: usize,
+}
+
+/// Solves m x = rhs in n unknowns, 1 to 6: the first n rows and columns of a 6 by 6 matrix, row by row.
+pub fn solve(m: &[f64; 36], rhs: &[f64; 6], n: usize, tol: f64) -> Option<[f64; 6]> {
+    let mut x = [0.0; 6];
+    // SAFETY: arrays of the lengths that the library takes, and `x` is lent for this call alone.
+    let ok = unsafe { c::port_solve(m.as_ptr(), rhs.as_ptr(), n, tol, x.as_mut_ptr()) };
+    ok.then_some(x)
+}
+
+/// The point (m, sigma) of the search over at most 256 quotes, three columns of one length; else nothing qualifies and no face is tried.
+pub fn cell(k: &[f64], w: &[f64], scaled: &[f64], limits: Limits, m: f64, sigma: f64) -> Cell {
+    // SAFETY: each pointer and count is a slice, and the library keeps none.
+    unsafe { c::port_cell(k.as_ptr(), k.len(), w.as_ptr(), w.len(), scaled.as_ptr(), scaled.len(), limits, m, sigma) }
 }

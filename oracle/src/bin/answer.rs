@@ -2,11 +2,11 @@
 
 use oracle::{house, work};
 
-const HOW: &str = "oracle/answer [--platform] FILE..      prints the Rust's answer to each file
+const HOW: &str = "oracle/answer [--platform] FILE..      prints the Rust's answer to each file; --keep-repeats: no repeat is dropped
 oracle/answers [--platform] FOLDER..   writes NAME.answer beside each NAME.house";
 
 fn main() {
-    let words = work::Words::read(&["jobs"], &["store", "platform"]).unwrap_or_else(|e| work::usage(&e, HOW));
+    let words = work::Words::read(&["jobs"], &["store", "platform", "keep-repeats"]).unwrap_or_else(|e| work::usage(&e, HOW));
     if words.rest.is_empty() {
         work::usage("no file named", HOW);
     }
@@ -18,7 +18,8 @@ fn main() {
     let progress = work::Progress::new("files", files.len());
     let answer = |i: usize| {
         let bytes = std::fs::read(&files[i]).unwrap_or_else(|e| work::usage(&format!("{}: {e}", files[i].display()), HOW));
-        house::answer(&bytes).text
+        let answer = if words.has("keep-repeats") { house::answer_with_repeats } else { house::answer };
+        answer(&bytes).text
     };
     work::each(files.len(), jobs as usize, answer, |i, text| {
         progress.at(i, "answered");

@@ -1,15 +1,11 @@
-/* The library from C: layouts, what each call answers to good and to bad input, buffers that stay as they were, a small stack.
+/* The fit from C: layouts, what each call answers to good and to bad input, buffers that stay as they were, a small stack.
  * Its last line is 'N passed, M failed'. */
 #include "kesupayro.h"
 
+#include "expect.h"
 #include <math.h>
 #include <pthread.h>
-#include <stdio.h>
 #include <string.h>
-
-static int passed, failed;
-
-#define EXPECT(what) ((what) ? (void)passed++ : (failed++, (void)printf("%s:%d: %s\n", __FILE__, __LINE__, #what)))
 
 enum { MOST = 257 };
 
@@ -34,7 +30,7 @@ static void quotes(size_t n)
         capped[i] = mark_count;
 }
 
-static FitAnswer fit(double tau, FitConfig config, size_t n)
+static PortFitAnswer fit(double tau, PortFitConfig config, size_t n)
 {
     return port_fit_slice(tau, config, k, n, w, n, weight, n, residuals, 4 * n, capped, n);
 }
@@ -51,9 +47,9 @@ static int untouched(void)
 }
 
 /* A refusal before the search: the number, every other value 0, buffers untouched. */
-static int refused(FitAnswer a, uint32_t number)
+static int refused(PortFitAnswer a, uint32_t number)
 {
-    FitAnswer zero;
+    PortFitAnswer zero;
     memset(&zero, 0, sizeof zero);
     int plain = a.number == number && a.observed == 0 && a.required == 0 && a.rmse_vol == 0 && a.max_rmse_vol == 0 && a.capped == 0;
     int slice = a.slice.tau == 0 && a.slice.a == 0 && a.slice.b == 0 && a.slice.rho == 0 && a.slice.m == 0 && a.slice.sigma == 0;
@@ -64,9 +60,9 @@ static int refused(FitAnswer a, uint32_t number)
 
 static void layouts(void)
 {
-    EXPECT(sizeof(KRange) == 16 && sizeof(SviSlice) == 64 && sizeof(FitConfig) == 88 && sizeof(Counts) == 40);
-    EXPECT(sizeof(FitAnswer) == 192 && offsetof(FitAnswer, slice) == 40 && offsetof(FitAnswer, active) == 136);
-    EXPECT(offsetof(FitAnswer, counts) == 144 && offsetof(FitAnswer, capped) == 184);
+    EXPECT(sizeof(PortKRange) == 16 && sizeof(PortSviSlice) == 64 && sizeof(PortFitConfig) == 88 && sizeof(PortCounts) == 40);
+    EXPECT(sizeof(PortFitAnswer) == 192 && offsetof(PortFitAnswer, slice) == 40 && offsetof(PortFitAnswer, active) == 136);
+    EXPECT(offsetof(PortFitAnswer, counts) == 144 && offsetof(PortFitAnswer, capped) == 184);
 }
 
 static void elementary(void)
@@ -84,7 +80,7 @@ static void elementary(void)
 
 static void defaults(void)
 {
-    FitConfig c = port_default_config();
+    PortFitConfig c = port_default_config();
     EXPECT(c.grid == 21 && c.refinements == 12 && c.max_recentres == 40 && c.min_observations == 5);
     EXPECT(c.sigma_lo == 0.005 && c.sigma_hi == 10 && c.a_min == 1e-8 && c.max_rmse_vol == 0.02);
     EXPECT(c.pivot_tolerance == 1e-12 && c.feasibility_tolerance == 1e-12 && c.max_weight_ratio == 10);
@@ -92,11 +88,11 @@ static void defaults(void)
 
 static void fits(void)
 {
-    FitConfig c = port_default_config();
+    PortFitConfig c = port_default_config();
     quotes(9);
     weight[4] = 16;
-    FitAnswer a = fit(0.5, c, 9);
-    EXPECT(a.number == KESUPAYRO_FITTED && a.slice.tau == 0.5 && a.rmse_vol < 0.001);
+    PortFitAnswer a = fit(0.5, c, 9);
+    EXPECT(a.number == PORT_FITTED && a.slice.tau == 0.5 && a.rmse_vol < 0.001);
     EXPECT(a.slice.k_range.lo == k[0] && a.slice.k_range.hi == k[8]);
     EXPECT(a.counts.passes > 0 && a.counts.cells == a.counts.passes * 21 * 21 && a.counts.faces >= a.counts.cells);
     EXPECT(a.capped == 1 && capped[0] == 4 && capped[1] == mark_count);
@@ -108,60 +104,60 @@ static void fits(void)
     }
     EXPECT(rows && residuals[36] == mark);
     quotes(256);
-    EXPECT(fit(0.5, c, 256).number == KESUPAYRO_FITTED && residuals[1024] == mark && capped[0] == mark_count);
+    EXPECT(fit(0.5, c, 256).number == PORT_FITTED && residuals[1024] == mark && capped[0] == mark_count);
 }
 
 /* Each refusal of the fit. */
 static void refusals(void)
 {
-    FitConfig c = port_default_config(), bad;
+    PortFitConfig c = port_default_config(), bad;
     quotes(9);
-    EXPECT(refused(port_fit_slice(0.5, c, k, 9, w, 8, weight, 9, residuals, 36, capped, 9), KESUPAYRO_LENGTHS));
-    EXPECT(refused(port_fit_slice(0.5, c, k, 9, w, 9, weight, 8, residuals, 36, capped, 9), KESUPAYRO_LENGTHS));
-    EXPECT(refused(port_fit_slice(0.5, c, k, 9, w, 9, weight, 9, residuals, 35, capped, 9), KESUPAYRO_LENGTHS));
-    EXPECT(refused(port_fit_slice(0.5, c, k, 9, w, 9, weight, 9, residuals, 36, capped, 8), KESUPAYRO_LENGTHS));
+    EXPECT(refused(port_fit_slice(0.5, c, k, 9, w, 8, weight, 9, residuals, 36, capped, 9), PORT_LENGTHS));
+    EXPECT(refused(port_fit_slice(0.5, c, k, 9, w, 9, weight, 8, residuals, 36, capped, 9), PORT_LENGTHS));
+    EXPECT(refused(port_fit_slice(0.5, c, k, 9, w, 9, weight, 9, residuals, 35, capped, 9), PORT_LENGTHS));
+    EXPECT(refused(port_fit_slice(0.5, c, k, 9, w, 9, weight, 9, residuals, 36, capped, 8), PORT_LENGTHS));
     quotes(257);
-    EXPECT(refused(fit(0.5, c, 257), KESUPAYRO_SIZE));
+    EXPECT(refused(fit(0.5, c, 257), PORT_SIZE));
     quotes(9);
     bad = c, bad.grid = 256;
-    EXPECT(refused(fit(0.5, bad, 9), KESUPAYRO_SIZE));
+    EXPECT(refused(fit(0.5, bad, 9), PORT_SIZE));
     bad = c, bad.refinements = (size_t)-1;
-    EXPECT(refused(fit(0.5, bad, 9), KESUPAYRO_SIZE));
+    EXPECT(refused(fit(0.5, bad, 9), PORT_SIZE));
     bad = c, bad.max_recentres = 1001;
-    EXPECT(refused(fit(NAN, bad, 9), KESUPAYRO_SIZE));
+    EXPECT(refused(fit(NAN, bad, 9), PORT_SIZE));
     k[8] = NAN;
-    EXPECT(refused(fit(0.5, c, 9), KESUPAYRO_BAD_OBSERVATION));
+    EXPECT(refused(fit(0.5, c, 9), PORT_BAD_OBSERVATION));
     quotes(9), w[0] = -1e-300;
-    EXPECT(refused(fit(0.5, c, 9), KESUPAYRO_BAD_OBSERVATION));
+    EXPECT(refused(fit(0.5, c, 9), PORT_BAD_OBSERVATION));
     quotes(9), weight[3] = 0;
-    EXPECT(refused(fit(0.5, c, 9), KESUPAYRO_BAD_OBSERVATION));
+    EXPECT(refused(fit(0.5, c, 9), PORT_BAD_OBSERVATION));
     quotes(9), bad = c, bad.grid = 4;
-    EXPECT(refused(fit(0.5, bad, 9), KESUPAYRO_SETTINGS));
+    EXPECT(refused(fit(0.5, bad, 9), PORT_SETTINGS));
     bad = c, bad.sigma_lo = bad.sigma_hi;
-    EXPECT(refused(fit(NAN, bad, 9), KESUPAYRO_SETTINGS));
-    EXPECT(refused(fit(0, c, 9), KESUPAYRO_TAU) && refused(fit(NAN, c, 9), KESUPAYRO_TAU) && refused(fit(INFINITY, c, 9), KESUPAYRO_TAU));
-    FitAnswer a = fit(0.5, c, 4);
-    EXPECT(a.number == KESUPAYRO_TOO_FEW && a.observed == 4 && a.required == 5 && a.counts.passes == 0 && untouched());
+    EXPECT(refused(fit(NAN, bad, 9), PORT_SETTINGS));
+    EXPECT(refused(fit(0, c, 9), PORT_TAU) && refused(fit(NAN, c, 9), PORT_TAU) && refused(fit(INFINITY, c, 9), PORT_TAU));
+    PortFitAnswer a = fit(0.5, c, 4);
+    EXPECT(a.number == PORT_TOO_FEW && a.observed == 4 && a.required == 5 && a.counts.passes == 0 && untouched());
     a = fit(0.5, c, 0);
-    EXPECT(a.number == KESUPAYRO_TOO_FEW && a.observed == 0 && untouched());
+    EXPECT(a.number == PORT_TOO_FEW && a.observed == 0 && untouched());
     for (int i = 0; i < 9; i++)
         k[i] = 0.1;
-    EXPECT(refused(fit(0.5, c, 9), KESUPAYRO_NO_SPAN));
+    EXPECT(refused(fit(0.5, c, 9), PORT_NO_SPAN));
     quotes(9), weight[0] = 5e-324, weight[1] = 1e300, weight[2] = 1e300, weight[3] = 1e300, weight[4] = 1e300, weight[5] = 1e300;
-    EXPECT(refused(fit(0.5, c, 9), KESUPAYRO_WEIGHTS));
+    EXPECT(refused(fit(0.5, c, 9), PORT_WEIGHTS));
     quotes(9);
     for (int i = 0; i < 9; i++)
         w[i] = i % 2 ? 1e200 : 2e200;
     a = fit(0.5, c, 9);
-    EXPECT(a.number == KESUPAYRO_NO_FACE && a.counts.passes == 1 && a.counts.cells == 441 && untouched());
+    EXPECT(a.number == PORT_NO_FACE && a.counts.passes == 1 && a.counts.cells == 441 && untouched());
     quotes(9);
     for (int i = 0; i < 9; i++)
         w[i] = 0.01;
     a = fit(0.25, c, 9);
-    EXPECT(a.number == KESUPAYRO_GRID_EDGE && a.counts.passes > 0 && untouched());
+    EXPECT(a.number == PORT_GRID_EDGE && a.counts.passes > 0 && untouched());
     quotes(9), bad = c, bad.max_rmse_vol = 1e-9;
     a = fit(0.5, bad, 9);
-    EXPECT(a.number == KESUPAYRO_RMSE && a.rmse_vol > 1e-9 && a.max_rmse_vol == 1e-9 && a.counts.passes > 0 && untouched());
+    EXPECT(a.number == PORT_RMSE && a.rmse_vol > 1e-9 && a.max_rmse_vol == 1e-9 && a.counts.passes > 0 && untouched());
 }
 
 static void number_of_8(uint8_t *at, uint64_t x)
@@ -180,7 +176,7 @@ static void float_of_8(uint8_t *at, double x)
 /* The example that the rules print: nine records of number 7, k 0, w 0.25, weight 1 at tau 0.25. */
 static void house_file(void)
 {
-    static uint8_t file[20 + 32 * 9], out[KESUPAYRO_MOST_ANSWER];
+    static uint8_t file[20 + 32 * 9], out[PORT_MOST_ANSWER];
     static const char answer[] = "read 9 kept 1\nrefused 3 1 5\n", malformed[] = "refused 43 0 0\n";
     size_t length = sizeof answer - 1;
     file[4] = 1;
