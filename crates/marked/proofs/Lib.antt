@@ -1,0 +1,17 @@
+pub mod Marked
+pub mod SettledBits
+pub mod SettledRoots
+pub mod SettledExponent
+pub mod SettledSlice
+pub mod SettledPoint
+pub mod SettledSurface
+pub mod SettledDiagnostics
+pub mod SettledSolver
+pub mod SettledCell
+pub mod SettledWeights
+pub mod SettledSearch
+pub mod SettledCalibrate
+pub mod SettledHouse
+pub mod SettledText
+pub mod SettledRun
+pub mod SettledPort

@@ -1,0 +1,30 @@
+-- No second answer meets the contract of a public function of crate `house`. Written by tools/settle from the contracts. Assumes nothing.
+use Prim.Native.Nat.{ℕ}
+use Rattle.calibrate.specs.declared.FitConfig.{FitConfig}
+use Rattle.house.specs.Check.{kOf, wOf, weightOf}
+use Rattle.house.specs.File.{configOf, houseOf, tauOf}
+use Rattle.house.specs.Taken.{keptOf, takenOf}
+use Rattle.house.specs.declared.House.{House}
+use Rattle.house.specs.declared.Taken.{Taken}
+use Rattle.laws.proofs.Choices.{settled}
+use Rattle.laws.specs.Room.{written}
+use lib.Ieee.{Float}
+use lib.ListN.{length}
+use mathlib.Core.List.{List, map}
+use mathlib.Core.Path.{_≡_}
+
+-- house::house_of
+pub house-of : (s : List ℕ) {r₁ r₂ : House} → (r₁ ≡ houseOf s) → (r₂ ≡ houseOf s) → r₁ ≡ r₂
+house-of s h₁ h₂ = settled h₁ h₂
+
+-- house::tau_of
+pub tau-of : (s : List ℕ) (settings : ℕ) {r₁ r₂ : Float} → (r₁ ≡ tauOf s settings) → (r₂ ≡ tauOf s settings) → r₁ ≡ r₂
+tau-of s settings h₁ h₂ = settled h₁ h₂
+
+-- house::config_of
+pub config-of : (s : List ℕ) (settings : ℕ) {r₁ r₂ : FitConfig} → (r₁ ≡ configOf s settings) → (r₂ ≡ configOf s settings) → r₁ ≡ r₂
+config-of s settings h₁ h₂ = settled h₁ h₂
+
+-- house::take_in
+pub take-in : (s : List ℕ) (k : List Float) (w : List Float) (weight : List Float) {r₁ r₂ : Taken} {k-exit₁ k-exit₂ : List Float} {w-exit₁ w-exit₂ : List Float} {weight-exit₁ weight-exit₂ : List Float} → ((r₁ ≡ takenOf s (length k) (length w) (length weight)) × (k-exit₁ ≡ written (r₁ .number) (map kOf (keptOf s)) k) × (w-exit₁ ≡ written (r₁ .number) (map wOf (keptOf s)) w) × (weight-exit₁ ≡ written (r₁ .number) (map weightOf (keptOf s)) weight)) → ((r₂ ≡ takenOf s (length k) (length w) (length weight)) × (k-exit₂ ≡ written (r₂ .number) (map kOf (keptOf s)) k) × (w-exit₂ ≡ written (r₂ .number) (map wOf (keptOf s)) w) × (weight-exit₂ ≡ written (r₂ .number) (map weightOf (keptOf s)) weight)) → (r₁ ≡ r₂) × (k-exit₁ ≡ k-exit₂) × (w-exit₁ ≡ w-exit₂) × (weight-exit₁ ≡ weight-exit₂)
+take-in s k w weight {r₁} {r₂} {k-exit₁} {k-exit₂} {w-exit₁} {w-exit₂} {weight-exit₁} {weight-exit₂} h₁ h₂ = (cc, cc, cc, cc)

@@ -1,0 +1,135 @@
+-- No second answer meets the contract of a public function of crate `port`. Written by tools/settle from the contracts. Assumes nothing.
+use Prim.Native.Nat.{_≤_, ℕ}
+use Rattle.cell.specs.Cell.{innerOf}
+use Rattle.cell.specs.declared.Cell.{Cell}
+use Rattle.cell.specs.declared.Limits.{Limits}
+use Rattle.diagnostics.specs.Diagnostics.{reportClean}
+use Rattle.diagnostics.specs.Tally.{isClean, recordedOf}
+use Rattle.diagnostics.specs.declared.report.DiagnosticsConfig.{DiagnosticsConfig}
+use Rattle.diagnostics.specs.declared.report.SurfaceDiagnostics.{SurfaceDiagnostics}
+use Rattle.diagnostics.specs.declared.tally.Check.{Check}
+use Rattle.diagnostics.specs.declared.tally.DiagnosticPoint.{DiagnosticPoint}
+use Rattle.exponent.specs.Exp.{expOf}
+use Rattle.exponent.specs.Ln.{lnOf}
+use Rattle.laws.proofs.Choices.{settled}
+use Rattle.point.specs.Point.{pointNumber, totalOf}
+use Rattle.port.specs.Answers.{bracketFor, coversFor, diagnosedFor, levelAnswer, rangeAnswer, regionFor, roomFor, sliceAnswer, totalAnswer, totalFor, valuesAnswer}
+use Rattle.port.specs.declared.answers.BracketAnswer.{BracketAnswer}
+use Rattle.port.specs.declared.answers.CoversAnswer.{CoversAnswer}
+use Rattle.port.specs.declared.answers.DiagnosedAnswer.{DiagnosedAnswer}
+use Rattle.port.specs.declared.answers.LevelAnswer.{LevelAnswer}
+use Rattle.port.specs.declared.answers.RangeAnswer.{RangeAnswer}
+use Rattle.port.specs.declared.answers.RegionAnswer.{RegionAnswer}
+use Rattle.port.specs.declared.answers.SliceAnswer.{SliceAnswer}
+use Rattle.port.specs.declared.answers.TotalAnswer.{TotalAnswer}
+use Rattle.port.specs.declared.answers.ValuesAnswer.{ValuesAnswer}
+use Rattle.roots.specs.Hypot.{hypotOf}
+use Rattle.roots.specs.Root.{rootOf}
+use Rattle.run.specs.Answer.{answerOf}
+use Rattle.slice.specs.Slice.{evalOf, holdsK, leeSlopeOf, madeOf, minimumOf, rangedOf}
+use Rattle.slice.specs.declared.KRange.{KRange}
+use Rattle.slice.specs.declared.SviSlice.{SviSlice}
+use Rattle.solver.specs.Solve.{solveOf}
+use Rattle.surface.specs.Runs.{checkRun, runOf}
+use Rattle.text.specs.Place.{placed}
+use lib.Ieee.{Float}
+use lib.ListN.{length}
+use mathlib.Core.Bool.{Bool}
+use mathlib.Core.List.{List}
+use mathlib.Core.Path.{_≡_}
+
+-- port::port_sqrt
+pub port-sqrt : (x : Float) {r₁ r₂ : Float} → (r₁ ≡ rootOf x) → (r₂ ≡ rootOf x) → r₁ ≡ r₂
+port-sqrt x h₁ h₂ = settled h₁ h₂
+
+-- port::port_hypot
+pub port-hypot : (x : Float) (y : Float) {r₁ r₂ : Float} → (r₁ ≡ hypotOf x y) → (r₂ ≡ hypotOf x y) → r₁ ≡ r₂
+port-hypot x y h₁ h₂ = settled h₁ h₂
+
+-- port::port_ln
+pub port-ln : (x : Float) {r₁ r₂ : Float} → (r₁ ≡ lnOf x) → (r₂ ≡ lnOf x) → r₁ ≡ r₂
+port-ln x h₁ h₂ = settled h₁ h₂
+
+-- port::port_exp
+pub port-exp : (x : Float) {r₁ r₂ : Float} → (r₁ ≡ expOf x) → (r₂ ≡ expOf x) → r₁ ≡ r₂
+port-exp x h₁ h₂ = settled h₁ h₂
+
+-- port::port_run
+pub port-run : (file : List ℕ) (out : List ℕ) {r₁ r₂ : ℕ} {out-exit₁ out-exit₂ : List ℕ} → ((r₁ ≡ length (answerOf file)) × (out-exit₁ ≡ placed (answerOf file) out) × (r₁ ≤ 32768)) → ((r₂ ≡ length (answerOf file)) × (out-exit₂ ≡ placed (answerOf file) out) × (r₂ ≤ 32768)) → (r₁ ≡ r₂) × (out-exit₁ ≡ out-exit₂)
+port-run file out {r₁} {r₂} {out-exit₁} {out-exit₂} h₁ h₂ = (cc, cc)
+
+-- port::port_solve
+pub port-solve : (m : List Float) (rhs : List Float) (n : ℕ) (tol : Float) (x : List Float) {r₁ r₂ : Bool} {x-exit₁ x-exit₂ : List Float} → ((r₁ ≡ solveOf n m rhs tol .ok) × (x-exit₁ ≡ solveOf n m rhs tol .x)) → ((r₂ ≡ solveOf n m rhs tol .ok) × (x-exit₂ ≡ solveOf n m rhs tol .x)) → (r₁ ≡ r₂) × (x-exit₁ ≡ x-exit₂)
+port-solve m rhs n tol x {r₁} {r₂} {x-exit₁} {x-exit₂} h₁ h₂ = (cc, cc)
+
+-- port::port_cell
+pub port-cell : (k : List Float) (w : List Float) (t : List Float) (l : Limits) (m : Float) (sigma : Float) {r₁ r₂ : Cell} → (r₁ ≡ innerOf k w t l m sigma) → (r₂ ≡ innerOf k w t l m sigma) → r₁ ≡ r₂
+port-cell k w t l m sigma h₁ h₂ = settled h₁ h₂
+
+-- port::port_k_range
+pub port-k-range : (lo : Float) (hi : Float) {r₁ r₂ : RangeAnswer} → (r₁ ≡ rangeAnswer (rangedOf lo hi)) → (r₂ ≡ rangeAnswer (rangedOf lo hi)) → r₁ ≡ r₂
+port-k-range lo hi h₁ h₂ = settled h₁ h₂
+
+-- port::port_contains
+pub port-contains : (range : KRange) (k : Float) {r₁ r₂ : Bool} → (r₁ ≡ holdsK range k) → (r₂ ≡ holdsK range k) → r₁ ≡ r₂
+port-contains range k h₁ h₂ = settled h₁ h₂
+
+-- port::port_slice
+pub port-slice : (tau : Float) (a : Float) (b : Float) (rho : Float) (m : Float) (sigma : Float) (range : KRange) {r₁ r₂ : SliceAnswer} → (r₁ ≡ sliceAnswer (madeOf tau a b rho m sigma range)) → (r₂ ≡ sliceAnswer (madeOf tau a b rho m sigma range)) → r₁ ≡ r₂
+port-slice tau a b rho m sigma range h₁ h₂ = settled h₁ h₂
+
+-- port::port_minimum
+pub port-minimum : (slice : SviSlice) {r₁ r₂ : LevelAnswer} → (r₁ ≡ levelAnswer (minimumOf slice)) → (r₂ ≡ levelAnswer (minimumOf slice)) → r₁ ≡ r₂
+port-minimum slice h₁ h₂ = settled h₁ h₂
+
+-- port::port_lee_slope
+pub port-lee-slope : (slice : SviSlice) {r₁ r₂ : LevelAnswer} → (r₁ ≡ levelAnswer (leeSlopeOf slice)) → (r₂ ≡ levelAnswer (leeSlopeOf slice)) → r₁ ≡ r₂
+port-lee-slope slice h₁ h₂ = settled h₁ h₂
+
+-- port::port_eval
+pub port-eval : (slice : SviSlice) (k : Float) {r₁ r₂ : ValuesAnswer} → (r₁ ≡ valuesAnswer (evalOf slice k)) → (r₂ ≡ valuesAnswer (evalOf slice k)) → r₁ ≡ r₂
+port-eval slice k h₁ h₂ = settled h₁ h₂
+
+-- port::port_check_point
+pub port-check-point : (k : Float) (tau : Float) {r₁ r₂ : ℕ} → (r₁ ≡ pointNumber k tau) → (r₂ ≡ pointNumber k tau) → r₁ ≡ r₂
+port-check-point k tau h₁ h₂ = settled h₁ h₂
+
+-- port::port_total
+pub port-total : (w : Float) («w_k» : Float) («w_kk» : Float) («w_tau» : Float) {r₁ r₂ : TotalAnswer} → (r₁ ≡ totalAnswer (totalOf w «w_k» «w_kk» «w_tau»)) → (r₂ ≡ totalAnswer (totalOf w «w_k» «w_kk» «w_tau»)) → r₁ ≡ r₂
+port-total w «w_k» «w_kk» «w_tau» h₁ h₂ = settled h₁ h₂
+
+-- port::port_surface
+pub port-surface : (slices : List SviSlice) {r₁ r₂ : ℕ} → (r₁ ≡ checkRun (runOf slices)) → (r₂ ≡ checkRun (runOf slices)) → r₁ ≡ r₂
+port-surface slices h₁ h₂ = settled h₁ h₂
+
+-- port::port_bracket
+pub port-bracket : (slices : List SviSlice) (policy : ℕ) (k : Float) (tau : Float) {r₁ r₂ : BracketAnswer} → (r₁ ≡ bracketFor (runOf slices) policy k tau) → (r₂ ≡ bracketFor (runOf slices) policy k tau) → r₁ ≡ r₂
+port-bracket slices policy k tau h₁ h₂ = settled h₁ h₂
+
+-- port::port_region
+pub port-region : (slices : List SviSlice) (policy : ℕ) (k : Float) (tau : Float) {r₁ r₂ : RegionAnswer} → (r₁ ≡ regionFor (runOf slices) policy k tau) → (r₂ ≡ regionFor (runOf slices) policy k tau) → r₁ ≡ r₂
+port-region slices policy k tau h₁ h₂ = settled h₁ h₂
+
+-- port::port_total_variance
+pub port-total-variance : (slices : List SviSlice) (policy : ℕ) (k : Float) (tau : Float) {r₁ r₂ : TotalAnswer} → (r₁ ≡ totalFor (runOf slices) policy k tau) → (r₂ ≡ totalFor (runOf slices) policy k tau) → r₁ ≡ r₂
+port-total-variance slices policy k tau h₁ h₂ = settled h₁ h₂
+
+-- port::port_covers_nodes
+pub port-covers-nodes : (slices : List SviSlice) (ks : List Float) (taus : List Float) {r₁ r₂ : CoversAnswer} → (r₁ ≡ coversFor (runOf slices) ks taus) → (r₂ ≡ coversFor (runOf slices) ks taus) → r₁ ≡ r₂
+port-covers-nodes slices ks taus h₁ h₂ = settled h₁ h₂
+
+-- port::port_diagnose
+pub port-diagnose : (slices : List SviSlice) (policy : ℕ) (ks : List Float) (taus : List Float) (config : DiagnosticsConfig) (room : List Float) {r₁ r₂ : DiagnosedAnswer} {room-exit₁ room-exit₂ : List Float} → ((r₁ ≡ diagnosedFor (runOf slices) policy ks taus config room) × (room-exit₁ ≡ roomFor (runOf slices) policy ks taus config room)) → ((r₂ ≡ diagnosedFor (runOf slices) policy ks taus config room) × (room-exit₂ ≡ roomFor (runOf slices) policy ks taus config room)) → (r₁ ≡ r₂) × (room-exit₁ ≡ room-exit₂)
+port-diagnose slices policy ks taus config room {r₁} {r₂} {room-exit₁} {room-exit₂} h₁ h₂ = (cc, cc)
+
+-- port::port_check_record
+pub port-check-record : (check : Check) (point : DiagnosticPoint) (tolerance : Float) {check-exit₁ check-exit₂ : Check} → (check-exit₁ ≡ recordedOf check point tolerance) → (check-exit₂ ≡ recordedOf check point tolerance) → check-exit₁ ≡ check-exit₂
+port-check-record check point tolerance {check-exit₁} {check-exit₂} h₁ h₂ = cc
+
+-- port::port_check_clean
+pub port-check-clean : (check : Check) {r₁ r₂ : Bool} → (r₁ ≡ isClean check) → (r₂ ≡ isClean check) → r₁ ≡ r₂
+port-check-clean check h₁ h₂ = settled h₁ h₂
+
+-- port::port_report_clean
+pub port-report-clean : (report : SurfaceDiagnostics) {r₁ r₂ : Bool} → (r₁ ≡ reportClean report) → (r₂ ≡ reportClean report) → r₁ ≡ r₂
+port-report-clean report h₁ h₂ = settled h₁ h₂
