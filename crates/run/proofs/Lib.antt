@@ -3,3 +3,4 @@ pub mod Fits
 pub mod Saying
 pub mod RepeatsDoNotShow
 pub mod OneOfTheForms
+pub mod PaperExample
