@@ -15,7 +15,7 @@ double port_ln(double x);
 double port_exp(double x);
 
 #define N 4096
-static double xs[N], ys[N], out[N];
+double xs[N], ys[N], out[N]; /* seen from outside, so that no call is left out */
 
 #define LOOP(name, call) __attribute__((noinline)) void name(void) { for (int i = 0; i < N; i++) { double x = xs[i], y = ys[i]; (void)x; (void)y; out[i] = call; __asm__ volatile("" ::: "memory"); } }
 LOOP(measured_none, x)

@@ -16,7 +16,7 @@ fn more(n: u64) -> u64 {
     if n < 1000000000 { n + 1 } else { n }
 }
 
-// The answer of a function of one argument, as bits; a name that is none has 1, the answer of no function to anything but its own argument.
+// The answer of a function of one argument, as bits. A name is its letters, as bytes: 73 71 72 74 is sqrt, 6c 6e ln, 65 78 70 exp, 68 79 70 6f 74 hypot.
 fn one(name: u64, x: f64) -> u64 {
     if name == 0x7371_7274 {
         return bits::bits_of(roots::sqrt(x));

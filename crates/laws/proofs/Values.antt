@@ -2,14 +2,14 @@
 use mathlib.Core.Path.{_≡_, refl, sym, ap, _∙_, subst}
 use mathlib.Core.Bool.{Bool, true, false, not, cond}
 use mathlib.Core.Logic.{inl, inr}
-use Prim.Native.Nat.{ℕ, zero, suc, _+_, _-_, _*_, _/_, _%_, _^_, _≤_, _<_}
+use Prim.Native.Nat.{ℕ, zero, suc, _+_, _-_, _*_, _/_, _%_, _^_, _≤_, _<_, compare}
 use native.Mathlib.Nat.{mul-div-cancel, mul-pos, zero-mul}
 use native.Mathlib.Omega.{arith}
 use borrow.Author.Tests.{ne-eqb, ltb-true}
-use lib.IntN.{ℤ}
-use lib.Dec.{T, leb, eqb}
+use lib.IntN.{ℤ, pos}
+use lib.Dec.{T, leb, ltb, eqb}
 use lib.Pow.{pow-pos}
-use lib.Ieee.{Float, nan, inf, fin, binary64, up, down, size, odd, ofFields, ofBits, toBits, isNan, fits, lt, div}
+use lib.Ieee.{Float, nan, inf, fin, binary64, up, down, size, odd, units, nearest, round, ofInt, ofFields, ofBits, toBits, isNan, fits, lt, div}
 use lib.Ieee.Bits.{ofBits-toBits}
 use lib.Ieee.Exact.{HasValue, odd-sign}
 use lib.Ieee.Fits.{down-pos}
@@ -100,6 +100,33 @@ pattern-of (fin t m e) s n h = rw (h .0, units-of m e n (h .1))
 pub same-value : (v w : Float) (s : Bool) (n : ℕ) → T (fits binary64 v) → T (fits binary64 w) → HasValue v s n (2 ^ 1074) → HasValue w s n (2 ^ 1074) → v ≡ w
 same-value v w s n f g h k =
     sym (ofBits-toBits binary64 v f) ∙ ap (λ (b : ℕ). ofBits binary64 b) (pattern-of v s n h ∙ sym (pattern-of w s n k)) ∙ ofBits-toBits binary64 w g
+
+-- ---- a whole number as a float is no NaN
+
+odd-no-nan : (d : ℕ) (s : Bool) (q k l : ℕ) → T (not (isNan (odd d s q k l)))
+unfolding odd isNan
+odd-no-nan d s zero k l = tt
+odd-no-nan d s (suc q) k l = tt
+
+units-no-nan : (q k : ℕ) → T (not (isNan (units binary64 false q k)))
+unfolding units isNan
+units-no-nan q k = go (ltb (q * 2 ^ k) (2 ^ 2098))
+  where
+    go : (b : Bool) → T (not (isNan (cond b (odd 54 false q k 1074) (inf false))))
+    go true = odd-no-nan 54 false q k 1074
+    go false = tt
+
+round-no-nan : (a b : ℕ) → T (not (isNan (round binary64 false a b)))
+unfolding round
+round-no-nan a b =
+    let n = a * 2 ^ 1074 in
+    let k = size (n / b) - 53 in
+    let u = b * 2 ^ k in
+    units-no-nan (nearest (n / u) (compare (n % u * 2) u)) k
+
+pub whole-no-nan : (n : ℕ) → T (not (isNan (ofInt binary64 (pos n))))
+unfolding ofInt
+whole-no-nan n = round-no-nan n 1
 
 -- ---- a finite float of the format
 

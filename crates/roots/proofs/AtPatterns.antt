@@ -14,6 +14,7 @@ use Rattle.laws.proofs.Patterns.{of-fields, amount, PartsOf, parted-at, amount-
 use Rattle.laws.proofs.Values.{value, units-of}
 use Rattle.roots.specs.Root.{sq, mag, rootUnits, rootMag, rootOf}
 use Rattle.roots.specs.Hypot.{hypotOf}
+use Rattle.roots.specs.Inner.{IsLeast, IsGreatest}
 
 -- ---- the root by the value
 
@@ -159,5 +160,15 @@ both (inf a) y s t n m h k = absurd h
 both (fin a u e) nan s t n m h k = absurd k
 both (fin a u e) (inf b) s t n m h k = absurd k
 
-pub swapped : (n m : ℕ) → rootUnits (sq n + sq m) ≡ rootUnits (sq m + sq n)
-swapped n m = ap rootUnits (add-comm (sq n) (sq m))
+-- the larger side and the smaller
+pub in-order : (a b g l : ℕ) → IsGreatest a b g → IsLeast a b l → a < 2047 * 2 ^ 52 → b < 2047 * 2 ^ 52 → (l ≤ g) × (g < 2047 * 2 ^ 52)
+in-order a b g l (inl v) (inl w) h k = (omega arith, omega arith)
+in-order a b g l (inl v) (inr w) h k = absurd (omega arith)
+in-order a b g l (inr v) (inl w) h k = absurd (omega arith)
+in-order a b g l (inr v) (inr w) h k = (omega arith, omega arith)
+
+pub sides : (a b g l : ℕ) → IsGreatest a b g → IsLeast a b l → rootUnits (sq (amount g) + sq (amount l)) ≡ rootUnits (sq (amount a) + sq (amount b))
+sides a b g l (inl v) (inl w) = rw (v .1, w .1) (ap rootUnits (add-comm (sq (amount b)) (sq (amount a))))
+sides a b g l (inl v) (inr w) = absurd (omega arith)
+sides a b g l (inr v) (inl w) = absurd (omega arith)
+sides a b g l (inr v) (inr w) = rw (v .1, w .1)

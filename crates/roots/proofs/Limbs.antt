@@ -112,3 +112,23 @@ module _ (xh xl zh zl off p sa sb q r : ℕ)
 
 pub off-small : (off d : ℕ) → off < 2 ^ (d * 2) → d ≤ 26 → off < 2 ^ 52
 off-small off d h k = lt-of-lt-of-le h (pow-mono (let l : d * 2 ≤ 52 = omega arith in l))
+
+-- ---- a step from g by c, which is a little less than the rest over 2g
+
+abbrev pub step : ℕ → ℕ → ℕ
+step g r = r / 2 ^ 40 / (g / 2 ^ 39 + 2)
+
+module _ (g r : ℕ) (few : step g r ≤ 64) where
+  pub step-le : step g r * (2 * g + step g r) ≤ r
+  step-le = go (step g r) few (div-mul-le-self (r / 2 ^ 40) (g / 2 ^ 39 + 2))
+    where
+      go : (c : ℕ) → c ≤ 64 → c * (g / 2 ^ 39 + 2) ≤ r / 2 ^ 40 → c * (2 * g + c) ≤ r
+      go c k h =
+          let b : 2 * g + c ≤ (g / 2 ^ 39 + 2) * 2 ^ 40 = omega arith in
+          omega (arith, mul-le-mul-left c b)
+
+  pub step-sum : sq (g + step g r) + (r - step g r * (2 * g + step g r)) ≡ sq g + r
+  step-sum = go (step g r) step-le
+    where
+      go : (c : ℕ) → c * (2 * g + c) ≤ r → sq (g + c) + (r - c * (2 * g + c)) ≡ sq g + r
+      go c h = omega arith

@@ -3,18 +3,18 @@ use mathlib.Core.Path.{_≡_, refl, sym, ap, _∙_, subst}
 use mathlib.Core.Bool.{false}
 use mathlib.Core.Logic.{_⊎_, inl, inr}
 use Prim.Native.Nat.{ℕ, suc, _+_, _-_, _*_, _/_, _%_, _^_, _≤_, _<_, compare, Ordering, Ordering·lt, Ordering·eq, Ordering·gt}
-use native.Mathlib.Nat.{mul-le-mul, mul-le-mul-right, mul-lt-mul-of-pos-right, mul-pos, lt-of-lt-of-le, lt-of-le-of-lt, le-trans, div-lt-iff-lt-mul, le-div-iff-mul-le}
+use native.Mathlib.Nat.{eq-or-lt-of-le, mul-le-mul, mul-le-mul-right, mul-lt-mul-of-pos-right, mul-pos, lt-of-lt-of-le, lt-of-le-of-lt, le-trans, div-lt-iff-lt-mul, le-div-iff-mul-le}
 use native.Mathlib.Omega.{arith}
 use borrow.Author.Tests.{le-ltb}
 use lib.Pow.{pow-pos, pow-add}
 use lib.Ieee.{inf, binary64, size, nearest, units, ofBits}
 use lib.Ieee.Digits.{size-le}
 use lib.Ieee.Nearest.{nearest-ge}
-use Rattle.laws.proofs.Comparing.{cmp-lt, cmp-eq, cmp-gt, size-gt}
+use Rattle.laws.proofs.Comparing.{lt-or-le, cmp-lt, cmp-eq, cmp-gt, size-gt}
 use Rattle.laws.proofs.Patterns.{Held, of-held, inf-pattern}
 use Rattle.roots.specs.Root.{sq, rootUnits}
 use Rattle.roots.specs.Nearest.{IsFloorRoot}
-use Rattle.roots.specs.Inner.{Between}
+use Rattle.roots.specs.Inner.{Between, IsAbove, IsLeast}
 use Rattle.roots.proofs.Squares.{sq-mono, isqrt-of}
 
 held-more : (w v k : ℕ) → w ≤ v → Held w k → Held v k
@@ -30,6 +30,16 @@ too-large w h = rw (le-ltb (w * 2 ^ 2046) (2 ^ 2098) (mul-le-mul-right (2 ^ 2046
 
 too-large-at : (w k : ℕ) → k ≡ 2046 → 2 ^ 52 ≤ w → units binary64 false w k ≡ inf false
 too-large-at w k z h = ap (λ (x : ℕ). units binary64 false w x) z ∙ too-large w h
+
+-- ---- numbers 0 and 1
+
+pub one-most : (a b r : ℕ) → IsAbove a b r → r ≤ 1
+one-most a b r (inl v) = omega arith
+one-most a b r (inr v) = omega arith
+
+pub least-most : {a b r : ℕ} → IsLeast a b r → r ≤ b
+least-most (inl v) = omega arith
+least-most (inr v) = omega arith
 
 -- ---- `rootUnits` by what decides it
 
@@ -85,7 +95,7 @@ module _ (n e u k q more w : ℕ) (K : 2 ^ k ≡ 2 ^ e * u) (B : Between (4 * n)
       let a : sq (suc q) * sq (2 ^ e) ≤ sq ((2 * w + 1) * u) * sq (2 ^ e) = mul-le-mul-right (sq (2 ^ e)) (sq-mono h) in
       of-held w k H (omega arith) j ∙ sym (as-units Ordering·lt (cmp-lt _ _ (omega (arith, unit (2 * w + 1), B .high))))
 
-  pub to-even : k ≤ 2045 → q ≡ (2 * w + 1) * u → more ≡ 0 → ofBits binary64 (k * 2 ^ 52 + w + w % 2) ≡ rootUnits n
+  to-even : k ≤ 2045 → q ≡ (2 * w + 1) * u → more ≡ 0 → ofBits binary64 (k * 2 ^ 52 + w + w % 2) ≡ rootUnits n
   to-even j h z =
       let a : sq ((2 * w + 1) * u) * sq (2 ^ e) ≡ 4 * n = subst (λ (x : ℕ). sq x * sq (2 ^ e) ≡ 4 * n) h (B .exact z) in
       ap (λ (x : ℕ). ofBits binary64 x) (let s : k * 2 ^ 52 + w + w % 2 ≡ k * 2 ^ 52 + (w + w % 2) = omega arith in s)
@@ -98,28 +108,94 @@ module _ (n e u k q more w : ℕ) (K : 2 ^ k ≡ 2 ^ e * u) (B : Between (4 * n)
       ∙ of-held (suc w) k (held-more w (suc w) k (omega arith) H) W j
       ∙ sym (as-units Ordering·gt (cmp-gt _ _ (subst (λ (x : ℕ). x < 4 * n) (unit (2 * w + 1)) h)))
 
-  pub to-upper : k ≤ 2045 → (2 * w + 1) * u ≤ q → (more ≡ 0 → ⊥) → ofBits binary64 (k * 2 ^ 52 + w + 1) ≡ rootUnits n
+  to-upper : k ≤ 2045 → (2 * w + 1) * u ≤ q → (more ≡ 0 → ⊥) → ofBits binary64 (k * 2 ^ 52 + w + 1) ≡ rootUnits n
   to-upper j h z = up-by j (lt-of-le-of-lt (mul-le-mul-right (sq (2 ^ e)) (sq-mono h)) (B .above (omega arith)))
 
-  pub to-upper-far : k ≤ 2045 → (2 * w + 1) * u < q → ofBits binary64 (k * 2 ^ 52 + w + 1) ≡ rootUnits n
+  to-upper-far : k ≤ 2045 → (2 * w + 1) * u < q → ofBits binary64 (k * 2 ^ 52 + w + 1) ≡ rootUnits n
   to-upper-far j h =
       let a : sq (suc ((2 * w + 1) * u)) * sq (2 ^ e) ≤ sq q * sq (2 ^ e) = mul-le-mul-right (sq (2 ^ e)) (sq-mono h) in
       let p : 0 < sq (2 ^ e) = mul-pos (pow-pos e) (pow-pos e) in
       let b : sq ((2 * w + 1) * u) < sq (suc ((2 * w + 1) * u)) = omega arith in
       up-by j (lt-of-lt-of-le (mul-lt-mul-of-pos-right b p) (le-trans a (B .low)))
 
-  pub to-infinity : k ≡ 2046 → ofBits binary64 (2047 * 2 ^ 52) ≡ rootUnits n
+  to-infinity : k ≡ 2046 → ofBits binary64 (2047 * 2 ^ 52) ≡ rootUnits n
   to-infinity z = inf-pattern ∙ sym (as-units _ refl ∙ too-large-at (nearest w (compare (4 * n) (sq ((2 * w + 1) * 2 ^ k)))) k z (large H))
     where
       large : Held w k → 2 ^ 52 ≤ nearest w (compare (4 * n) (sq ((2 * w + 1) * 2 ^ k)))
       large (inl l) = le-trans l (nearest-ge w (compare (4 * n) (sq ((2 * w + 1) * 2 ^ k))))
       large (inr y) = absurd (omega arith)
 
+  -- what is dropped, twice, with 1 for more and 1 for an odd w, is above 2u: then it goes up
+  rounded : (z up : ℕ) → IsAbove more 0 z → IsAbove (2 * (q - w * (2 * u)) + z + w % 2) (2 * u) up → k ≤ 2045 → ofBits binary64 (k * 2 ^ 52 + w + up) ≡ rootUnits n
+  rounded z up Z U j = elim (lt-or-le q ((2 * w + 1) * u)) [
+    | inl l ↦ elim Z [
+      | inl s ↦ elim U [ inl v ↦ absurd (omega arith) | inr v ↦ same up 0 (v .1) (down l) ]
+      | inr s ↦ elim U [ inl v ↦ absurd (omega arith) | inr v ↦ same up 0 (v .1) (down l) ]
+    ]
+    | inr g ↦ elim Z [
+      | inl s ↦ elim U [ inl v ↦ same up 1 (v .1) (to-upper j g (λ (y : more ≡ 0). omega arith)) | inr v ↦ absurd (omega arith) ]
+      | inr s ↦ elim (eq-or-lt-of-le g) [
+        | inl e ↦ elim U [ inl v ↦ same up (w % 2) (omega arith) (to-even j (sym e) (omega arith)) | inr v ↦ same up (w % 2) (omega arith) (to-even j (sym e) (omega arith)) ]
+        | inr m ↦ elim U [ inl v ↦ same up 1 (v .1) (to-upper-far j m) | inr v ↦ absurd (omega arith) ]
+      ]
+    ]
+  ]
+    where
+      same : (a b : ℕ) → a ≡ b → ofBits binary64 (k * 2 ^ 52 + w + b) ≡ rootUnits n → ofBits binary64 (k * 2 ^ 52 + w + a) ≡ rootUnits n
+      same a b e h = ap (λ (x : ℕ). ofBits binary64 (k * 2 ^ 52 + w + x)) e ∙ h
+
+      down : q < (2 * w + 1) * u → ofBits binary64 (k * 2 ^ 52 + w + 0) ≡ rootUnits n
+      down l = ap (λ (x : ℕ). ofBits binary64 x) (let s : k * 2 ^ 52 + w + 0 ≡ k * 2 ^ 52 + w = omega arith in s) ∙ to-lower j l
+
+  -- and past the largest it is infinity's pattern or more
+  pub kept-below : (z up r : ℕ) → IsAbove more 0 z → IsAbove (2 * (q - w * (2 * u)) + z + w % 2) (2 * u) up → IsLeast (k * 2 ^ 52 + w + up) (2047 * 2 ^ 52) r → k ≤ 2046
+      → ofBits binary64 r ≡ rootUnits n
+  kept-below z up r Z U L j = elim (lt-or-le k 2046) [
+    | inl l ↦
+        let m : up ≤ 1 = one-most _ _ up U in
+        elim L [
+          | inl v ↦ ap (λ (x : ℕ). ofBits binary64 x) (v .1) ∙ rounded z up Z U (omega arith)
+          | inr v ↦ absurd (omega arith)
+        ]
+    | inr g ↦
+        let e : k ≡ 2046 = omega arith in
+        ap (λ (x : ℕ). ofBits binary64 x) (top e L) ∙ to-infinity e
+  ]
+    where
+      full : Held w k → k ≡ 2046 → 2 ^ 52 ≤ w
+      full (inl l) e = l
+      full (inr y) e = absurd (omega arith)
+
+      top : k ≡ 2046 → IsLeast (k * 2 ^ 52 + w + up) (2047 * 2 ^ 52) r → r ≡ 2047 * 2 ^ 52
+      top e (inl v) = let f = full H e in omega arith
+      top e (inr v) = v .1
+
 -- ---- half of a root of 54 digits, or a quarter of one of 55
 
-pub held-half : (q k : ℕ) → (2 ^ 53 ≤ q) ⊎ (k ≡ 0) → Held (q / 2) k
+-- a says which
+abbrev pub Which : ℕ → ℕ → Type 0
+Which q a = IsAbove q 18014398509481983 a
+
+pub which-fits : (q a : ℕ) → q < 2 ^ 55 → Which q a
+    → (a ≤ 1) × (q / 2 ^ (a + 1) * (2 * (a + 1)) ≤ q) × (q / 2 ^ (a + 1) < 2 ^ 53) × (q - q / 2 ^ (a + 1) * (2 * (a + 1)) < 4)
+which-fits q a h (inl v) = rw (v .1) (omega arith, omega arith, omega arith, omega arith)
+which-fits q a h (inr v) = rw (v .1) (omega arith, omega arith, omega arith, omega arith)
+
+held-half : (q k : ℕ) → (2 ^ 53 ≤ q) ⊎ (k ≡ 0) → Held (q / 2) k
 held-half q k (inl l) = inl (omega arith)
 held-half q k (inr z) = inr z
 
-pub held-quarter : (q k : ℕ) → 2 ^ 54 ≤ q → Held (q / 4) k
-held-quarter q k l = inl (omega arith)
+pub placed : (q more e a z up r : ℕ) → q < 2 ^ 55 → e ≤ 2045 → (2 ^ 53 ≤ q) ⊎ (e ≡ 0) → Which q a → IsAbove more 0 z
+    → IsAbove (2 * (q - q / 2 ^ (a + 1) * (2 * (a + 1))) + z + q / 2 ^ (a + 1) % 2) (2 * (a + 1)) up
+    → IsLeast ((e + (a + 1) - 1) * 2 ^ 52 + q / 2 ^ (a + 1) + up) (2047 * 2 ^ 52) r
+    → (n : ℕ) → Between (4 * n) (sq (2 ^ e)) q more → ofBits binary64 r ≡ rootUnits n
+placed q more e a z up r Q E H (inr v) Z U L n B =
+    let U′ : IsAbove (2 * (q - q / 2 * (2 * 1)) + z + q / 2 % 2) (2 * 1) up = rw (v .1) at U in
+    let L′ : IsLeast ((e + 1 - 1) * 2 ^ 52 + q / 2 + up) (2047 * 2 ^ 52) r = rw (v .1) at L in
+    let L″ : IsLeast (e * 2 ^ 52 + q / 2 + up) (2047 * 2 ^ 52) r = subst (λ (x : ℕ). IsLeast (x * 2 ^ 52 + q / 2 + up) (2047 * 2 ^ 52) r) (let s : e + 1 - 1 ≡ e = omega arith in s) L′ in
+    kept-below n e 1 e q more (q / 2) (omega arith) B (omega arith) (omega arith) (held-half q e H) (omega arith) z up r Z U′ L″ (omega arith)
+placed q more e a z up r Q E H (inl v) Z U L n B =
+    let U′ : IsAbove (2 * (q - q / 4 * (2 * 2)) + z + q / 4 % 2) (2 * 2) up = rw (v .1) at U in
+    let L′ : IsLeast ((e + 2 - 1) * 2 ^ 52 + q / 4 + up) (2047 * 2 ^ 52) r = rw (v .1) at L in
+    let L″ : IsLeast ((e + 1) * 2 ^ 52 + q / 4 + up) (2047 * 2 ^ 52) r = subst (λ (x : ℕ). IsLeast (x * 2 ^ 52 + q / 4 + up) (2047 * 2 ^ 52) r) (let s : e + 2 - 1 ≡ e + 1 = omega arith in s) L′ in
+    kept-below n e 2 (e + 1) q more (q / 4) (pow-add 2 e 1) B (omega arith) (omega arith) (inl (omega arith)) (omega arith) z up r Z U′ L″ (omega arith)

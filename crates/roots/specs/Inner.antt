@@ -1,6 +1,7 @@
 -- Words of the contracts inside this crate. Nothing here has to be believed: the contracts of `sqrt` and `hypot` do not use them.
 use Prim.Native.Nat.{ℕ, suc, _+_, _*_, _≤_, _<_}
 use mathlib.Core.Path.{_≡_}
+use mathlib.Core.Logic.{_⊎_}
 use Rattle.roots.specs.Root.{sq}
 
 -- a whole root and what is left over, as code has it
@@ -14,3 +15,14 @@ pub record Between (n p q more : ℕ) : Type 0 where
   pub high : n < sq (suc q) * p
   pub exact : more ≡ 0 → sq q * p ≡ n
   pub above : 0 < more → sq q * p < n
+
+-- r is 1 where a is above b, else 0
+abbrev pub IsAbove : ℕ → ℕ → ℕ → Type 0
+IsAbove a b r = ((b < a) × (r ≡ 1)) ⊎ ((a ≤ b) × (r ≡ 0))
+
+-- r is the least, and the greatest, of a and b
+abbrev pub IsLeast : ℕ → ℕ → ℕ → Type 0
+IsLeast a b r = ((a ≤ b) × (r ≡ a)) ⊎ ((b < a) × (r ≡ b))
+
+abbrev pub IsGreatest : ℕ → ℕ → ℕ → Type 0
+IsGreatest a b r = ((a ≤ b) × (r ≡ b)) ⊎ ((b < a) × (r ≡ a))

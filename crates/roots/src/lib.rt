@@ -9,6 +9,8 @@ ghost use lib.Ieee.{binary64, nan, ofBits};
 ghost use Rattle.laws.proofs.Patterns.{amount};
 ghost use Rattle.roots.specs.Root.{rootOf, rootUnits, sq};
 ghost use Rattle.roots.specs.Hypot.{hypotOf};
+use pattern::greatest;
+use pattern::least;
 use pattern::parts_of;
 use pattern::place;
 use pattern::shift_up;
@@ -98,8 +100,5 @@ pub fn hypot(x: f64, y: f64) -> f64
     if 9218868437227405312 <= b {
         return 1.0 / 0.0;
     }
-    if a < b {
-        return f64::from_bits(hypot_bits(b, a));
-    }
-    f64::from_bits(hypot_bits(a, b))
+    f64::from_bits(hypot_bits(greatest(a, b), least(a, b)))
 }

@@ -5,7 +5,7 @@ ghost use Prim.Native.Nat.{ℕ, _+_, _*_, _^_, _≤_, _<_};
 ghost use lib.Ieee.{binary64, ofBits};
 ghost use Rattle.laws.proofs.Patterns.{mantOf, expoOf};
 ghost use Rattle.roots.specs.Root.{rootUnits, sq};
-ghost use Rattle.roots.specs.Inner.{Between};
+ghost use Rattle.roots.specs.Inner.{Between, IsAbove, IsLeast, IsGreatest};
 
 // The significand of a pattern with the sign clear, and its exponent from the smallest value's.
 pub(crate) struct Parts {
@@ -45,33 +45,35 @@ pub(crate) fn shift_up(t: u64) -> Shifted
     Shifted { m, by }
 }
 
+// 1 where a is above b, else 0; and the least and the greatest of two: no jump is needed.
+pub(crate) fn above(a: u64, b: u64) -> u64
+    ensures { λ r. ⌜ IsAbove a b r ⌝ }
+{
+    if b < a { 1 } else { 0 }
+}
+
+pub(crate) fn least(a: u64, b: u64) -> u64
+    ensures { λ r. ⌜ IsLeast a b r ⌝ }
+{
+    if a <= b { a } else { b }
+}
+
+pub(crate) fn greatest(a: u64, b: u64) -> u64
+    ensures { λ r. ⌜ IsGreatest a b r ⌝ }
+{
+    if a <= b { b } else { a }
+}
+
 // The bit pattern of a root q * 2 ^ (e - 1), rounded. `more` says whether the root is above that.
+// Of 54 digits one is dropped, of 55 two: u = 1, 2 is half the weight of what is dropped. It goes up from the middle on, but in the middle only where there is more or what is kept is odd.
+// Past the largest finite number the sum reaches infinity's pattern or passes it, and is cut to that.
 pub(crate) fn place(q: u64, more: u64, e: u64) -> u64
     requires { ⌜ (q < 2 ^ 55) × (e ≤ 2045) × (2 ^ 53 ≤ q ⊎ e ≡ 0) ⌝ }
     ensures { λ r. ⌜ (r ≤ 2047 * 2 ^ 52) × ((n : ℕ) → Between (4 * n) (sq (2 ^ e)) q more → ofBits binary64 r ≡ rootUnits n) ⌝ }
 {
-    if q < 18014398509481984 {
-        let w = e * 4503599627370496 + q / 2;
-        if q % 2 == 0 {
-            return w;
-        }
-        if more == 0 {
-            return w + q / 2 % 2;
-        }
-        return w + 1;
-    }
-    if e == 2045 {
-        return 9218868437227405312;
-    }
-    let w = (e + 1) * 4503599627370496 + q / 4;
-    if q % 4 < 2 {
-        return w;
-    }
-    if q % 4 == 3 {
-        return w + 1;
-    }
-    if more == 0 {
-        return w + q / 4 % 2;
-    }
-    w + 1
+    let u = above(q, 18014398509481983) + 1;
+    let w = q >> u;
+    let rest = q - w * (2 * u);
+    let up = above(2 * rest + above(more, 0) + w % 2, 2 * u);
+    least((e + u - 1) * 4503599627370496 + w + up, 9218868437227405312)
 }

@@ -34,37 +34,30 @@ fn digits(s: Root, word: u64, pairs: u64) -> Root
     Root { root, rem }
 }
 
-// A guess at the root of w * 2 ^ 52, for w = m * (odd + 1): by floats, and nothing is said of it but its size.
-fn guess(m: u64, odd: u64) -> u64
-    requires { ⌜ (2 ^ 52 ≤ m) × (m < 2 ^ 53) × (odd < 2) ⌝ }
-    ensures { λ r. ⌜ r < 2 ^ 54 ⌝ }
+// A guess at the root of hi * 2 ^ 54, some 16 too small: by floats, from a first guess at 1 / √x that halves the exponent, and nothing is said of it but its size.
+// The last sum brings it to the numbers from 2 ^ 55 on, whose patterns count by 8; so the digits of the pattern are the guess, and no test is needed.
+fn guess(hi: u64) -> u64
+    requires { ⌜ hi < 2 ^ 56 ⌝ }
+    ensures { λ r. ⌜ r < 2 ^ 55 ⌝ }
 {
-    let b = (odd + 1022) * 4503599627370496 + m;
-    let x = f64::from_bits(b);
+    let x = (hi / 8) as f64;
     let half = 0.5 * x;
-    let r0 = f64::from_bits(6910469410427058089 - b / 2);
-    let r1 = r0 * (1.5 - half * r0 * r0);
-    let r2 = r1 * (1.5 - half * r1 * r1);
-    let r3 = r2 * (1.5 - half * r2 * r2);
+    let r0 = f64::from_bits(6910469410427058089 - f64::to_bits(x) % 9223372036854775808 / 2);
+    let r1 = 1.5 * r0 - half * r0 * (r0 * r0);
+    let r2 = 1.5 * r1 - half * r1 * (r1 * r1);
+    let r3 = 1.5 * r2 - half * r2 * (r2 * r2);
     let s = x * r3;
-    let y = s + 0.5 * r3 * (x - s * s);
+    let y = (s * 379625062.497006236 + 36028797018963952.0)
+        + r3 * 189812531.248503118 * (x - s * s);
     if y != y {
         return 0;
     }
-    let c = f64::to_bits(y);
-    if c < 4602678819172646912 {
-        return 0;
-    }
-    let g = c - 4602678819172646912;
-    if 18014398509481984 <= g {
-        return 0;
-    }
-    g
+    f64::to_bits(y) % 4503599627370496 * 8
 }
 
 // From a number g and what is left of n = g * g + r, up to the whole root of n.
 fn climb(g: u64, r: u64) -> Root
-    requires { ⌜ (g < 2 ^ 55) × (r < 2 ^ 62) ⌝ }
+    requires { ⌜ (g < 2 ^ 56) × (r < 2 ^ 62) ⌝ }
     ensures { λ s. ⌜ RootPair (sq g + r) (s .root) (s .rem) ⌝ }
 {
     let mut root = g;
@@ -85,46 +78,15 @@ fn slow_wide_root(hi: u64, lo: u64) -> Root
     digits(high, lo, 27)
 }
 
-// A guess at the root of hi * 2 ^ 54, a little too small, or 0 for none.
-fn wide_guess(hi: u64) -> u64
-    ensures { λ r. ⌜ r < 2 ^ 55 ⌝ }
-{
-    if hi < 4503599627370496 {
-        return 0;
-    }
-    if hi < 9007199254740992 {
-        return less(2 * guess(hi, 0), 2);
-    }
-    if hi < 18014398509481984 {
-        return less(2 * guess(hi / 2, 1), 2);
-    }
-    if hi < 36028797018963968 {
-        let g = guess(hi / 4, 0);
-        if g < 9007199254740992 {
-            return less(4 * g, 4);
-        }
-    }
-    0
-}
-
-fn less(g: u64, by: u64) -> u64
-    ensures { λ r. ⌜ r ≤ g ⌝ }
-{
-    if g < by { 0 } else { g - by }
-}
-
-// The whole root of hi * 2 ^ 54 + lo: from a guess that is not too large, upward, else digit by digit.
+// The whole root of hi * 2 ^ 54 + lo: from a guess that is not too large, almost there at once by a short division, and upward; else digit by digit.
 pub(crate) fn wide_root(hi: u64, lo: u64) -> Root
     requires { ⌜ (hi < 2 ^ 56) × (lo < 2 ^ 54) ⌝ }
     ensures { λ r. ⌜ RootPair (hi * 2 ^ 54 + lo) (r .root) (r .rem) ⌝ }
 {
-    let g = wide_guess(hi);
+    let g = guess(hi);
     let s = square(g);
     let high = s.hi;
     let low = s.lo;
-    if g == 0 {
-        return slow_wide_root(hi, lo);
-    }
     if hi < high {
         return slow_wide_root(hi, lo);
     }
@@ -132,10 +94,16 @@ pub(crate) fn wide_root(hi: u64, lo: u64) -> Root
     if 255 < d {
         return slow_wide_root(hi, lo);
     }
-    if d * 18014398509481984 + lo < low {
+    let over = d * 18014398509481984 + lo;
+    if over < low {
         return slow_wide_root(hi, lo);
     }
-    climb(g, d * 18014398509481984 + lo - low)
+    let rem = over - low;
+    let c = (rem >> 40) / ((g >> 39) + 2);
+    if 64 < c {
+        return slow_wide_root(hi, lo);
+    }
+    climb(g + c, rem - c * (2 * g + c))
 }
 
 // A whole root, and a number that is 0 where it is exact.

@@ -2,8 +2,10 @@
 // The matrix is 6 by 6, row by row, of which the first n rows and columns count.
 ghost use mathlib.Core.Path.{_≡_};
 ghost use Prim.Native.Nat.{_+_, _≤_, _<_};
-ghost use mathlib.Core.Bool.{true};
-ghost use Rattle.solver.specs.Solve.{after, standing, ranked, rowScaleOf, scaleOf, pivotRowOf, rowOf, swapRows, swapped, minusOf, factorOf, rowDone, belowOf, columnOf, eliminatedOf, tailOf, placed, backRowOf, backOf, scaledOf, solveOf};
+ghost use mathlib.Core.Bool.{true, false};
+ghost use lib.Ieee.{isNan};
+ghost use Rattle.laws.specs.Floats.{maxOf};
+ghost use Rattle.solver.specs.Solve.{after, standing, ranked, rowScaleOf, scaleOf, pivotRowOf, rowOf, swapRows, swapped, minusOf, factorOf, rowDone, belowOf, columnOf, eliminatedOf, tailOf, backOf, scaledOf, solveOf};
 
 // Whether there is a solution, and its unknowns; what is no unknown is 0.
 pub struct Solved {
@@ -11,14 +13,22 @@ pub struct Solved {
     pub x: [f64; 6],
 }
 
+// Rust's max where a is no NaN: one test less.
+fn larger(a: f64, b: f64) -> f64
+    requires { ⌜ isNan a ≡ false ⌝ }
+    ensures { λ r. ⌜ (r ≡ maxOf a b) × (isNan r ≡ false) ⌝ }
+{
+    bits::pick(a < b, b, a)
+}
+
 fn row_scale(m: &[f64; 36], n: usize, i: usize, a: f64) -> f64
-    requires { ⌜ (n ≤ 6) × (i < 6) ⌝ }
-    ensures { λ r. ⌜ r ≡ rowScaleOf n (now (m .entry)) i a ⌝ }
+    requires { ⌜ (n ≤ 6) × (i < 6) × (isNan a ≡ false) ⌝ }
+    ensures { λ r. ⌜ (r ≡ rowScaleOf n (now (m .entry)) i a) × (isNan r ≡ false) ⌝ }
 {
     let mut acc = a;
     for j in 0..n {
         let k = i * 6 + j;
-        acc = bits::max(acc, bits::magnitude(m[k]));
+        acc = larger(acc, bits::magnitude(m[k]));
     }
     acc
 }
@@ -70,10 +80,14 @@ fn swap_rows(m: &mut [f64; 36], a: usize, b: usize)
     }
 }
 
+// Rows a and b of the system change places; a row with itself needs no work.
 fn swap(m: &mut [f64; 36], rhs: &mut [f64; 6], a: usize, b: usize)
     requires { ⌜ (a < 6) × (b < 6) ⌝ }
     ensures { λ r. ⌜ standing (now (m .exit)) (now (rhs .exit)) ≡ swapped (standing (now (m .entry)) (now (rhs .entry))) a b ⌝ }
 {
+    if a == b {
+        return;
+    }
     let v = rhs[a];
     rhs[a] = rhs[b];
     rhs[b] = v;
@@ -172,46 +186,25 @@ fn tail_of(m: &[f64; 36], x: &[f64; 6], n: usize, row: usize) -> f64
     tail
 }
 
-fn place(t: Solved, row: usize, value: f64) -> Solved
-    requires { ⌜ row < 6 ⌝ }
-    ensures { λ r. ⌜ r ≡ placed row value t ⌝ }
-{
-    if !bits::is_finite(value) {
-        return Solved {
-            ok: false,
-            x: [0.0; 6],
-        };
-    }
-    let mut x = t.x;
-    x[row] = value;
-    Solved { ok: true, x: x }
-}
-
-fn back_row(t: Solved, m: &[f64; 36], rhs: &[f64; 6], n: usize, row: usize) -> Solved
-    requires { ⌜ (n ≤ 6) × (row < n) ⌝ }
-    ensures { λ r. ⌜ r ≡ backRowOf n (now (m .entry)) (now (rhs .entry)) row t ⌝ }
-{
-    if !t.ok {
-        return t;
-    }
-    let x = t.x;
-    let k = row * 6 + row;
-    let value = (rhs[row] - tail_of(m, &x, n, row)) / m[k];
-    place(t, row, value)
-}
-
+// The unknowns from the last up; a value that is not finite refuses.
 fn back(m: &[f64; 36], rhs: &[f64; 6], n: usize) -> Solved
     requires { ⌜ n ≤ 6 ⌝ }
     ensures { λ r. ⌜ r ≡ backOf n (now (m .entry)) (now (rhs .entry)) ⌝ }
 {
-    let mut t = Solved {
-        ok: true,
-        x: [0.0; 6],
-    };
+    let mut x = [0.0; 6];
     for k in 0..n {
-        t = back_row(t, m, rhs, n, n - 1 - k);
+        let row = n - 1 - k;
+        let d = row * 6 + row;
+        let value = (rhs[row] - tail_of(m, &x, n, row)) / m[d];
+        if !bits::is_finite(value) {
+            return Solved {
+                ok: false,
+                x: [0.0; 6],
+            };
+        }
+        x[row] = value;
     }
-    t
+    Solved { ok: true, x: x }
 }
 
 fn scaled(m: &mut [f64; 36], rhs: &mut [f64; 6], n: usize, tol: f64, scale: f64) -> Solved

@@ -6,7 +6,7 @@ use Rattle.exponent.proofs.rest.Tie as tie
 
 returns : tie.Need-returns
 unfolding restOf
-returns c = cc
+returns c = rw (c .nearest-u64-to-f64 .ensures)
 
 pub rest-spec : {M : Type 1} → statement M
 rest-spec = tie.close (tie.spec (λ c κs. search needs) returns)

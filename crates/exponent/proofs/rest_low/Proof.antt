@@ -6,7 +6,7 @@ use Rattle.exponent.proofs.rest_low.Tie as tie
 
 returns : tie.Need-returns
 unfolding restLowOf
-returns c = cc
+returns c = rw (c .rest .ensures, c .before .nearest-u64-to-f64 .ensures)
 
 pub rest-low-spec : {M : Type 1} → statement M
 rest-low-spec = tie.close (tie.spec (λ c κs. search needs) (λ c κs. search needs) returns)

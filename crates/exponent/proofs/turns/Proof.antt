@@ -9,7 +9,7 @@ truncating-f64-to-u64-requires c κs = cast-fine (c .args .a) (c .pre .0) (c .pr
 
 returns : tie.Need-returns
 unfolding turnsOf
-returns c = cc
+returns c = rw (c .truncating-f64-to-u64 .ensures)
 
 pub turns-spec : {M : Type 1} → statement M
 turns-spec = tie.close (tie.spec truncating-f64-to-u64-requires returns)

@@ -7,7 +7,7 @@ use Rattle.laws.proofs.Floats.{self-same}
 use Rattle.laws.proofs.Patterns.{below-nan}
 use Rattle.laws.proofs.Values.{value, infinite, div-one-zero}
 use Rattle.roots.specs.Hypot.{hypotOf}
-use Rattle.roots.proofs.AtPatterns.{nan-right, inf-left, inf-right, both, swapped}
+use Rattle.roots.proofs.AtPatterns.{nan-right, inf-left, inf-right, both, in-order, sides}
 use borrow.Author.Needs.{needs}
 use Rattle.roots.proofs.hypot.Statement.{statement}
 use Rattle.roots.proofs.hypot.Tie as tie
@@ -15,6 +15,8 @@ use Rattle.roots.proofs.hypot.Reads as reads
 use Rattle.roots.proofs.hypot.Lts as lts
 use Rattle.roots.proofs.beside_nan.Reads as beside-nan-reads
 use Rattle.roots.proofs.hypot_bits.Reads as hypot-bits-reads
+use Rattle.roots.proofs.pattern.greatest.Reads as greatest-reads
+use Rattle.roots.proofs.pattern.least.Reads as least-reads
 
 held-x : (c : tie.Start) → T (fits binary64 (c .args .x))
 held-x c = subst T (sym (c .good .0 .1)) tt
@@ -58,30 +60,24 @@ returns-4 c =
     let e = infinite (s .args .y) (held-y s) (self-same _ (c .before .before .if2 .left)) (c .if4 .taken) in
     div-one-zero ∙ sym (ap (λ (v : Float). hypotOf (s .args .x) v) e ∙ inf-right (s .args .x) _)
 
+greatest-requires : tie.Need-greatest-requires
+greatest-requires c κs = search needs
+
+least-requires : tie.Need-least-requires
+least-requires c κs = search needs
+
 hypot-bits-requires : tie.Need-hypot-bits-requires
-hypot-bits-requires c κs = search needs
+hypot-bits-requires c κs = in-order _ _ _ _ (c .before .greatest .ensures) (c .least .ensures) (c .before .before .before .if3 .left) (c .before .before .if4 .left)
 
 float-from-bits-result : tie.Need-float-from-bits-result
 float-from-bits-result c = below-nan (c .hypot-bits .result) (c .hypot-bits .ensures .0)
 
 returns-5 : tie.Need-returns-5
 returns-5 c =
-    let s = c .before .before .before .before .before .before in
+    let s = c .before .before .before .before .before .before .before in
     c .hypot-bits .ensures .1
-    ∙ swapped _ _
-    ∙ sym (both (s .args .x) (s .args .y) _ _ _ _ (value (s .args .x) (held-x s) (c .before .before .before .if3 .left)) (value (s .args .y) (held-y s) (c .before .before .if4 .left)))
-
-hypot-bits-requires-2 : tie.Need-hypot-bits-requires-2
-hypot-bits-requires-2 c κs = search needs
-
-float-from-bits-result-2 : tie.Need-float-from-bits-result-2
-float-from-bits-result-2 c = below-nan (c .hypot-bits2 .result) (c .hypot-bits2 .ensures .0)
-
-returns-6 : tie.Need-returns-6
-returns-6 c =
-    let s = c .before .before .before .before .before .before in
-    c .hypot-bits2 .ensures .1
-    ∙ sym (both (s .args .x) (s .args .y) _ _ _ _ (value (s .args .x) (held-x s) (c .before .before .before .if3 .left)) (value (s .args .y) (held-y s) (c .before .before .if4 .left)))
+    ∙ sides _ _ _ _ (c .before .before .greatest .ensures) (c .before .least .ensures)
+    ∙ sym (both (s .args .x) (s .args .y) _ _ _ _ (value (s .args .x) (held-x s) (c .before .before .before .before .if3 .left)) (value (s .args .y) (held-y s) (c .before .before .before .if4 .left)))
 
 pub hypot-spec : {M : Type 1} → statement M
 hypot-spec =
@@ -95,9 +91,8 @@ hypot-spec =
     float-to-bits-b
     returns-3
     returns-4
+    greatest-requires
+    least-requires
     hypot-bits-requires
     float-from-bits-result
-    returns-5
-    hypot-bits-requires-2
-    float-from-bits-result-2
-    returns-6)
+    returns-5)

@@ -1,0 +1,221 @@
+/* The fit from C: layouts, what each call answers to good and to bad input, buffers that stay as they were, a small stack.
+ * Its last line is 'N passed, M failed'. */
+#include "kesupayro.h"
+
+#include "expect.h"
+#include <math.h>
+#include <pthread.h>
+#include <string.h>
+
+enum { MOST = 257 };
+
+/* A fit's columns and buffers, with marks in the room beyond what is lent. */
+static double k[MOST], w[MOST], weight[MOST], residuals[4 * MOST + 4];
+static size_t capped[MOST + 1];
+static const double mark = -77.0;
+static const size_t mark_count = 7777;
+
+/* n quotes off a smile, weight 1, and buffers full of marks. */
+static void quotes(size_t n)
+{
+    for (size_t i = 0; i < n; i++) {
+        double x = -0.3 + 0.6 * (double)i / (double)(n > 1 ? n - 1 : 1);
+        k[i] = x;
+        w[i] = 0.01 + 0.1 * (-0.3 * x + sqrt(x * x + 0.0225)) + 1e-5 * (double)(i % 3);
+        weight[i] = 1;
+    }
+    for (size_t i = 0; i < sizeof residuals / sizeof *residuals; i++)
+        residuals[i] = mark;
+    for (size_t i = 0; i < sizeof capped / sizeof *capped; i++)
+        capped[i] = mark_count;
+}
+
+static PortFitAnswer fit(double tau, PortFitConfig config, size_t n)
+{
+    return port_fit_slice(tau, config, k, n, w, n, weight, n, residuals, 4 * n, capped, n);
+}
+
+/* The buffers are as quotes() left them. */
+static int untouched(void)
+{
+    int same = 1;
+    for (size_t i = 0; i < sizeof residuals / sizeof *residuals; i++)
+        same &= residuals[i] == mark;
+    for (size_t i = 0; i < sizeof capped / sizeof *capped; i++)
+        same &= capped[i] == mark_count;
+    return same;
+}
+
+/* A refusal before the search: the number, every other value 0, buffers untouched. */
+static int refused(PortFitAnswer a, uint32_t number)
+{
+    PortFitAnswer zero;
+    memset(&zero, 0, sizeof zero);
+    int plain = a.number == number && a.observed == 0 && a.required == 0 && a.rmse_vol == 0 && a.max_rmse_vol == 0 && a.capped == 0;
+    int slice = a.slice.tau == 0 && a.slice.a == 0 && a.slice.b == 0 && a.slice.rho == 0 && a.slice.m == 0 && a.slice.sigma == 0;
+    int counts = memcmp(&a.counts, &zero.counts, sizeof a.counts) == 0 && memcmp(a.active, zero.active, sizeof a.active) == 0;
+    int sums = a.objective == 0 && a.objective_params == 0 && a.lee_margin == 0 && a.a_margin == 0;
+    return plain && slice && counts && sums && untouched();
+}
+
+static void layouts(void)
+{
+    EXPECT(sizeof(PortKRange) == 16 && sizeof(PortSviSlice) == 64 && sizeof(PortFitConfig) == 88 && sizeof(PortCounts) == 40);
+    EXPECT(sizeof(PortFitAnswer) == 192 && offsetof(PortFitAnswer, slice) == 40 && offsetof(PortFitAnswer, active) == 136);
+    EXPECT(offsetof(PortFitAnswer, counts) == 144 && offsetof(PortFitAnswer, capped) == 184);
+}
+
+static void elementary(void)
+{
+    EXPECT(port_sqrt(2.25) == 1.5);
+    EXPECT(isnan(port_sqrt(-1)) && isnan(port_sqrt(NAN)) && port_sqrt(INFINITY) == INFINITY);
+    EXPECT(port_sqrt(0.0) == 0 && signbit(port_sqrt(-0.0)));
+    EXPECT(port_sqrt(2) == sqrt(2) && port_sqrt(5e-324) == sqrt(5e-324));
+    EXPECT(port_hypot(3, 4) == 5 && port_hypot(INFINITY, NAN) == INFINITY && isnan(port_hypot(1, NAN)));
+    EXPECT(port_hypot(1.7e308, 1.7e308) == INFINITY);
+    EXPECT(port_ln(1) == 0 && port_ln(0) == -INFINITY && isnan(port_ln(-1)) && port_ln(INFINITY) == INFINITY);
+    EXPECT(port_exp(0) == 1 && port_exp(-INFINITY) == 0 && port_exp(711) == INFINITY && port_exp(-747) == 0 && isnan(port_exp(NAN)));
+    EXPECT(fabs(port_exp(port_ln(10)) - 10) < 1e-13);
+}
+
+static void defaults(void)
+{
+    PortFitConfig c = port_default_config();
+    EXPECT(c.grid == 21 && c.refinements == 12 && c.max_recentres == 40 && c.min_observations == 5);
+    EXPECT(c.sigma_lo == 0.005 && c.sigma_hi == 10 && c.a_min == 1e-8 && c.max_rmse_vol == 0.02);
+    EXPECT(c.pivot_tolerance == 1e-12 && c.feasibility_tolerance == 1e-12 && c.max_weight_ratio == 10);
+}
+
+static void fits(void)
+{
+    PortFitConfig c = port_default_config();
+    quotes(9);
+    weight[4] = 16;
+    PortFitAnswer a = fit(0.5, c, 9);
+    EXPECT(a.number == PORT_FITTED && a.slice.tau == 0.5 && a.rmse_vol < 0.001);
+    EXPECT(a.slice.k_range.lo == k[0] && a.slice.k_range.hi == k[8]);
+    EXPECT(a.counts.passes > 0 && a.counts.cells == a.counts.passes * 21 * 21 && a.counts.faces >= a.counts.cells);
+    EXPECT(a.capped == 1 && capped[0] == 4 && capped[1] == mark_count);
+    int rows = 1;
+    for (int i = 0; i < 9; i++) {
+        double x = k[i] - a.slice.m, fitted = a.slice.a + a.slice.b * (a.slice.rho * x + hypot(x, a.slice.sigma));
+        rows &= residuals[4 * i] == k[i] && residuals[4 * i + 1] == w[i] && fabs(residuals[4 * i + 2] - fitted) < 1e-12;
+        rows &= fabs(residuals[4 * i + 3] - (sqrt(w[i] / 0.5) - sqrt(fitted / 0.5))) < 1e-12;
+    }
+    EXPECT(rows && residuals[36] == mark);
+    quotes(256);
+    EXPECT(fit(0.5, c, 256).number == PORT_FITTED && residuals[1024] == mark && capped[0] == mark_count);
+}
+
+/* Each refusal of the fit. */
+static void refusals(void)
+{
+    PortFitConfig c = port_default_config(), bad;
+    quotes(9);
+    EXPECT(refused(port_fit_slice(0.5, c, k, 9, w, 8, weight, 9, residuals, 36, capped, 9), PORT_LENGTHS));
+    EXPECT(refused(port_fit_slice(0.5, c, k, 9, w, 9, weight, 8, residuals, 36, capped, 9), PORT_LENGTHS));
+    EXPECT(refused(port_fit_slice(0.5, c, k, 9, w, 9, weight, 9, residuals, 35, capped, 9), PORT_LENGTHS));
+    EXPECT(refused(port_fit_slice(0.5, c, k, 9, w, 9, weight, 9, residuals, 36, capped, 8), PORT_LENGTHS));
+    quotes(257);
+    EXPECT(refused(fit(0.5, c, 257), PORT_SIZE));
+    quotes(9);
+    bad = c, bad.grid = 256;
+    EXPECT(refused(fit(0.5, bad, 9), PORT_SIZE));
+    bad = c, bad.refinements = (size_t)-1;
+    EXPECT(refused(fit(0.5, bad, 9), PORT_SIZE));
+    bad = c, bad.max_recentres = 1001;
+    EXPECT(refused(fit(NAN, bad, 9), PORT_SIZE));
+    k[8] = NAN;
+    EXPECT(refused(fit(0.5, c, 9), PORT_BAD_OBSERVATION));
+    quotes(9), w[0] = -1e-300;
+    EXPECT(refused(fit(0.5, c, 9), PORT_BAD_OBSERVATION));
+    quotes(9), weight[3] = 0;
+    EXPECT(refused(fit(0.5, c, 9), PORT_BAD_OBSERVATION));
+    quotes(9), bad = c, bad.grid = 4;
+    EXPECT(refused(fit(0.5, bad, 9), PORT_SETTINGS));
+    bad = c, bad.sigma_lo = bad.sigma_hi;
+    EXPECT(refused(fit(NAN, bad, 9), PORT_SETTINGS));
+    EXPECT(refused(fit(0, c, 9), PORT_TAU) && refused(fit(NAN, c, 9), PORT_TAU) && refused(fit(INFINITY, c, 9), PORT_TAU));
+    PortFitAnswer a = fit(0.5, c, 4);
+    EXPECT(a.number == PORT_TOO_FEW && a.observed == 4 && a.required == 5 && a.counts.passes == 0 && untouched());
+    a = fit(0.5, c, 0);
+    EXPECT(a.number == PORT_TOO_FEW && a.observed == 0 && untouched());
+    for (int i = 0; i < 9; i++)
+        k[i] = 0.1;
+    EXPECT(refused(fit(0.5, c, 9), PORT_NO_SPAN));
+    quotes(9), weight[0] = 5e-324, weight[1] = 1e300, weight[2] = 1e300, weight[3] = 1e300, weight[4] = 1e300, weight[5] = 1e300;
+    EXPECT(refused(fit(0.5, c, 9), PORT_WEIGHTS));
+    quotes(9);
+    for (int i = 0; i < 9; i++)
+        w[i] = i % 2 ? 1e200 : 2e200;
+    a = fit(0.5, c, 9);
+    EXPECT(a.number == PORT_NO_FACE && a.counts.passes == 1 && a.counts.cells == 441 && untouched());
+    quotes(9);
+    for (int i = 0; i < 9; i++)
+        w[i] = 0.01;
+    a = fit(0.25, c, 9);
+    EXPECT(a.number == PORT_GRID_EDGE && a.counts.passes > 0 && untouched());
+    quotes(9), bad = c, bad.max_rmse_vol = 1e-9;
+    a = fit(0.5, bad, 9);
+    EXPECT(a.number == PORT_RMSE && a.rmse_vol > 1e-9 && a.max_rmse_vol == 1e-9 && a.counts.passes > 0 && untouched());
+}
+
+static void number_of_8(uint8_t *at, uint64_t x)
+{
+    for (int i = 0; i < 8; i++)
+        at[i] = (uint8_t)(x >> (8 * i));
+}
+
+static void float_of_8(uint8_t *at, double x)
+{
+    uint64_t bits;
+    memcpy(&bits, &x, sizeof bits);
+    number_of_8(at, bits);
+}
+
+/* The example that the rules print: nine records of number 7, k 0, w 0.25, weight 1 at tau 0.25. */
+static void house_file(void)
+{
+    static uint8_t file[20 + 32 * 9], out[PORT_MOST_ANSWER];
+    static const char answer[] = "read 9 kept 1\nrefused 3 1 5\n", malformed[] = "refused 43 0 0\n";
+    size_t length = sizeof answer - 1;
+    file[4] = 1;
+    float_of_8(file + 8, 0.25);
+    file[16] = 9;
+    for (int i = 0; i < 9; i++) {
+        uint8_t *record = file + 20 + 32 * i;
+        number_of_8(record, 7), float_of_8(record + 8, 0), float_of_8(record + 16, 0.25), float_of_8(record + 24, 1);
+    }
+    memset(out, '#', sizeof out);
+    EXPECT(port_run(file, sizeof file, out, sizeof out) == length);
+    EXPECT(memcmp(out, answer, length) == 0 && out[length] == '#');
+    memset(out, '#', sizeof out);
+    EXPECT(port_run(file, sizeof file, out, length - 1) == length && out[0] == '#');
+    EXPECT(port_run(file, sizeof file, out, 0) == length && out[0] == '#');
+    EXPECT(port_run(file, sizeof file, out, length) == length && out[0] == 'r' && out[length] == '#');
+    EXPECT(port_run(file, sizeof file - 1, out, sizeof out) == sizeof malformed - 1 && memcmp(out, malformed, sizeof malformed - 1) == 0);
+    EXPECT(port_run(file, 0, out, sizeof out) == sizeof malformed - 1);
+}
+
+static void *all(void *nothing)
+{
+    elementary();
+    defaults();
+    fits();
+    refusals();
+    house_file();
+    return nothing;
+}
+
+int main(void)
+{
+    layouts();
+    /* A thread with 256 KiB of stack is enough for every call. */
+    pthread_attr_t small;
+    pthread_t thread;
+    pthread_attr_init(&small);
+    EXPECT(pthread_attr_setstacksize(&small, 256 << 10) == 0);
+    EXPECT(pthread_create(&thread, &small, all, NULL) == 0 && pthread_join(thread, NULL) == 0);
+    printf("%d passed, %d failed\n", passed, failed);
+    return failed != 0;
+}

@@ -1,0 +1,209 @@
+/* Slices, points, surfaces and diagnostics from C, and the two calls inside the fit: good and bad input. Its last line is 'N passed, M failed'. */
+#include "kesupayro.h"
+
+#include "expect.h"
+#include <math.h>
+#include <pthread.h>
+#include <string.h>
+
+static const PortKRange wide = {-1, 1};
+
+/* The worked example: a 0.25, b 0.5, rho 0, m 0, sigma 3 has w 1.75 at 0 and 2.75 at 4. */
+static PortSviSlice slice_at(double tau)
+{
+    PortSviSlice s = {tau, 0.25, 0.5, 0, 0, 3, wide};
+    return s;
+}
+
+static void layouts(void)
+{
+    EXPECT(sizeof(PortRangeAnswer) == 24 && sizeof(PortSliceAnswer) == 72 && sizeof(PortLevelAnswer) == 16 && sizeof(PortValuesAnswer) == 32);
+    EXPECT(sizeof(PortTotalAnswer) == 40 && sizeof(PortBracketAnswer) == 32 && sizeof(PortRegionAnswer) == 8 && sizeof(PortCoversAnswer) == 8);
+    EXPECT(sizeof(PortCheck) == 48 && sizeof(PortSurfaceDiagnostics) == 152 && sizeof(PortDiagnosedAnswer) == 160 && sizeof(PortCell) == 56);
+}
+
+static void ranges(void)
+{
+    PortRangeAnswer r = port_k_range(-1, 2);
+    EXPECT(r.number == 0 && r.range.lo == -1 && r.range.hi == 2);
+    EXPECT(port_k_range(2, 2).number == 0 && port_k_range(2, 1).number == PORT_K_RANGE && port_k_range(NAN, 1).number == PORT_K_RANGE);
+    r = port_k_range(0, INFINITY);
+    EXPECT(r.number == PORT_K_RANGE && r.range.lo == 0 && r.range.hi == 0);
+    EXPECT(port_contains(wide, 1) && port_contains(wide, -1) && !port_contains(wide, 1.5) && !port_contains(wide, NAN));
+}
+
+/* The same slice with one number changed, through every call that takes a slice. */
+static int slice_refused(PortSviSlice s, uint32_t number)
+{
+    PortSliceAnswer made = port_slice(s.tau, s.a, s.b, s.rho, s.m, s.sigma, s.k_range);
+    PortSviSlice two[2] = {slice_at(1), s};
+    return made.number == number && made.slice.tau == 0 && made.slice.k_range.hi == 0 && port_minimum(s).number == number &&
+           port_lee_slope(s).number == number && port_eval(s, 0).number == number && port_surface(two, 2) == number;
+}
+
+static void slices(void)
+{
+    PortSviSlice s = slice_at(1);
+    PortSliceAnswer made = port_slice(1, 0.25, 0.5, 0, 0, 3, wide);
+    EXPECT(made.number == 0 && memcmp(&made.slice, &s, sizeof s) == 0);
+    EXPECT(port_minimum(s).number == 0 && port_minimum(s).value == 1.75);
+    EXPECT(port_lee_slope(s).number == 0 && port_lee_slope(s).value == 0.5);
+    PortValuesAnswer v = port_eval(s, 4);
+    EXPECT(v.number == 0 && v.w == 2.75 && fabs(v.w_k - 0.4) < 1e-15 && v.w_kk > 0);
+    EXPECT(port_eval(s, 0).w == 1.75 && port_eval(s, 0).w_k == 0);
+    EXPECT(port_eval(s, NAN).number == PORT_EVAL_K && port_eval(s, INFINITY).number == PORT_EVAL_K);
+    s.a = NAN;
+    EXPECT(slice_refused(s, PORT_NOT_FINITE));
+    s = slice_at(0);
+    EXPECT(slice_refused(s, PORT_SLICE_TAU));
+    s = slice_at(2), s.b = -0.5;
+    EXPECT(slice_refused(s, PORT_B));
+    s = slice_at(2), s.rho = 1.25;
+    EXPECT(slice_refused(s, PORT_RHO));
+    s = slice_at(2), s.sigma = 0;
+    EXPECT(slice_refused(s, PORT_SIGMA));
+    s = slice_at(2), s.b = 1.5, s.rho = 0.5;
+    EXPECT(slice_refused(s, PORT_LEE));
+    s = slice_at(2), s.a = -1.5;
+    EXPECT(slice_refused(s, PORT_MINIMUM));
+    s = slice_at(2), s.k_range.lo = 2;
+    EXPECT(port_minimum(s).number == PORT_K_RANGE && port_eval(s, 0).number == PORT_K_RANGE && port_eval(s, 0).w == 0);
+    s = slice_at(2), s.b = 1, s.rho = 1;
+    EXPECT(port_eval(s, 1.7e308).number == PORT_EVAL);
+    s = slice_at(2), s.sigma = 1e-200;
+    EXPECT(port_eval(s, 1).number == PORT_CURVATURE);
+}
+
+static void points(void)
+{
+    EXPECT(port_check_point(0, 1) == 0 && port_check_point(NAN, NAN) == PORT_POINT_K && port_check_point(0, 0) == PORT_POINT_TAU);
+    PortTotalAnswer t = port_total(1, 2, 3, 4);
+    EXPECT(t.number == 0 && t.total.w == 1 && t.total.w_k == 2 && t.total.w_kk == 3 && t.total.w_tau == 4);
+    EXPECT(port_total(0, NAN, 0, 0).number == PORT_VARIANCE && port_total(1, 0, INFINITY, 0).number == PORT_DERIVATIVE);
+}
+
+static void surfaces(void)
+{
+    PortSviSlice s[33];
+    for (int i = 0; i < 33; i++)
+        s[i] = slice_at(1 + i), s[i].a = 0.25 + i;
+    EXPECT(port_surface(s, 32) == 0 && port_surface(s, 33) == PORT_SIZE && port_surface(s, 1) == PORT_TWO_SLICES && port_surface(s, 0) == PORT_TWO_SLICES);
+
+    /* taus 1, 2, 4 at 2: the segment 0 to 1 at its end */
+    PortSviSlice three[3] = {s[0], s[1], s[3]};
+    PortBracketAnswer b = port_bracket(three, 3, PORT_REJECT, 0, 2);
+    EXPECT(b.number == 0 && !b.below && b.lo == 0 && b.hi == 1 && b.x == 1);
+    b = port_bracket(three, 3, PORT_REJECT, 0, 1);
+    EXPECT(b.number == 0 && b.lo == 0 && b.hi == 1 && b.x == 0);
+    b = port_bracket(s, 2, PORT_REJECT, 0, 1.5);
+    EXPECT(b.number == 0 && b.lo == 0 && b.hi == 1 && b.x == 0.5);
+    EXPECT(port_bracket(s, 2, PORT_REJECT, 0, 2.5).number == PORT_BEYOND_LAST);
+    b = port_bracket(s, 2, PORT_REJECT, 0, 0.5);
+    EXPECT(b.number == PORT_BEFORE_FIRST && !b.below && b.lo == 0 && b.hi == 0 && b.x == 0);
+    EXPECT(port_bracket(s, 2, 7, 0, 0.5).number == PORT_BEFORE_FIRST);
+    b = port_bracket(s, 2, PORT_CONSTANT_VOL, 0, 0.5);
+    EXPECT(b.number == 0 && b.below);
+    EXPECT(port_bracket(s, 2, PORT_REJECT, NAN, 1).number == PORT_POINT_K && port_bracket(s, 2, PORT_REJECT, 0, NAN).number == PORT_POINT_TAU);
+
+    EXPECT(port_region(s, 2, PORT_REJECT, 0.5, 1.5).calibrated && !port_region(s, 2, PORT_REJECT, 1.5, 1.5).calibrated);
+    EXPECT(!port_region(s, 2, PORT_CONSTANT_VOL, 0, 0.5).calibrated && port_region(s, 2, PORT_REJECT, 0, 0.5).number == PORT_BEFORE_FIRST);
+
+    PortTotalAnswer t = port_total_variance(s, 2, PORT_REJECT, 0, 1.5);
+    EXPECT(t.number == 0 && t.total.w == 2.25 && t.total.w_k == 0 && t.total.w_kk > 0 && t.total.w_tau == 1);
+    t = port_total_variance(s, 2, PORT_CONSTANT_VOL, 0, 0.5);
+    EXPECT(t.number == 0 && t.total.w == 0.875 && t.total.w_tau == 1.75);
+    EXPECT(port_total_variance(s, 2, PORT_REJECT, 0, 3).number == PORT_BEYOND_LAST);
+
+    double ks[65], taus[65];
+    for (int i = 0; i < 65; i++)
+        ks[i] = -1 + i / 32.0, taus[i] = 1 + i;
+    EXPECT(port_covers_nodes(three, 3, ks, 64, taus, 4).all && port_covers_nodes(three, 3, ks, 64, taus, 4).number == 0);
+    EXPECT(!port_covers_nodes(three, 3, ks, 64, taus, 3).all && port_covers_nodes(three, 3, ks, 64, taus, 3).number == 0);
+    EXPECT(port_covers_nodes(three, 3, ks, 65, taus, 4).number == PORT_SIZE);
+    EXPECT(port_covers_nodes(three, 3, ks, 0, taus, 4).number == PORT_K_AXIS && port_covers_nodes(three, 3, ks, 2, taus, 0).number == PORT_TAU_AXIS);
+
+    s[1].tau = 1;
+    EXPECT(port_surface(s, 2) == PORT_TAU_ORDER && port_bracket(s, 2, PORT_REJECT, NAN, NAN).number == PORT_TAU_ORDER);
+}
+
+static void diagnostics(void)
+{
+    enum { NK = 3, NT = 4, ROOM = 3 * NK * NT };
+    PortSviSlice s[2] = {slice_at(1), slice_at(2)};
+    PortDiagnosticsConfig config = {1e-10, 1e-12};
+    double ks[NK] = {-1, 0, 1}, taus[NT] = {1, 1.5, 2, 3}, room[ROOM + 1];
+    for (int i = 0; i <= ROOM; i++)
+        room[i] = -77;
+    s[1].a = 1.25;
+    PortDiagnosedAnswer d = port_diagnose(s, 2, PORT_REJECT, ks, NK, taus, 3, config, room, ROOM);
+    EXPECT(d.number == 0 && d.report.butterfly.points == 9 && d.report.calendar_slope.points == 9 && d.report.calendar_gap.points == 6);
+    EXPECT(port_report_clean(d.report) && d.report.evaluation_failures == 0 && room[0] == -77);
+    d = port_diagnose(s, 2, PORT_REJECT, ks, NK, taus, NT, config, room, ROOM);
+    EXPECT(d.number == 0 && d.report.evaluation_failures == 3 && !port_report_clean(d.report) && port_check_clean(d.report.butterfly));
+    EXPECT(room[0] == -1 && room[1] == 3 && room[2] == PORT_BEYOND_LAST && room[8] == PORT_BEYOND_LAST && room[9] == -77);
+    s[1].a = 0.125;
+    d = port_diagnose(s, 2, PORT_REJECT, ks, NK, taus, 3, config, room, ROOM);
+    EXPECT(d.number == 0 && d.report.calendar_gap.violations == 6 && !port_check_clean(d.report.calendar_gap));
+    EXPECT(d.report.calendar_gap.worst.found && d.report.calendar_gap.worst.at.k == -1 && d.report.calendar_gap.worst.at.tau == 1);
+
+    room[0] = -77;
+    d = port_diagnose(s, 2, PORT_REJECT, ks, NK, taus, NT, config, room, ROOM - 1);
+    EXPECT(d.number == PORT_LENGTHS && d.report.butterfly.points == 0 && room[0] == -77);
+    EXPECT(port_diagnose(s, 1, PORT_REJECT, ks, NK, taus, NT, config, room, ROOM).number == PORT_TWO_SLICES);
+    EXPECT(port_diagnose(s, 2, PORT_REJECT, ks, 0, taus, NT, config, room, ROOM).number == PORT_K_AXIS);
+    taus[3] = 2;
+    EXPECT(port_diagnose(s, 2, PORT_REJECT, ks, NK, taus, NT, config, room, ROOM).number == PORT_TAU_AXIS);
+    config.calendar_tolerance = NAN;
+    EXPECT(port_diagnose(s, 2, PORT_REJECT, ks, NK, taus, 3, config, room, ROOM).number == PORT_TOLERANCE && room[0] == -77);
+
+    PortCheck check;
+    memset(&check, 0, sizeof check);
+    PortDiagnosticPoint p = {0, 1, 0.5}, low = {1, 1, -0.25};
+    port_check_record(&check, p, 0.1);
+    EXPECT(check.points == 1 && check.violations == 0 && check.worst.found && check.worst.at.value == 0.5 && port_check_clean(check));
+    port_check_record(&check, low, 0.1);
+    EXPECT(check.points == 2 && check.violations == 1 && check.worst.at.k == 1 && !port_check_clean(check));
+}
+
+static void inside(void)
+{
+    double m[36] = {0}, rhs[6] = {2, 8, 8, 0, 0, 0}, x[6];
+    m[0] = 2, m[7] = 4, m[14] = 8;
+    EXPECT(port_solve(m, rhs, 3, 1e-12, x) && x[0] == 1 && x[1] == 2 && x[2] == 1 && x[3] == 0);
+    EXPECT(!port_solve(m, rhs, 4, 1e-12, x) && x[0] == 0);
+    EXPECT(!port_solve(m, rhs, 0, 1e-12, x) && !port_solve(m, rhs, 7, 1e-12, x));
+
+    double k[9], w[9], scaled[9];
+    for (int i = 0; i < 9; i++) {
+        double y = ((k[i] = -0.4 + 0.1 * i) - 0.05) / 0.2;
+        w[i] = 0.04 - 0.003 * y + 0.02 * sqrt(y * y + 1), scaled[i] = 1;
+    }
+    PortLimits limits = {1e-8, 1, 1e-12, 1e-12};
+    PortCell c = port_cell(k, 9, w, 9, scaled, 9, limits, 0.05, 0.2);
+    EXPECT(c.some && c.faces == 1 && c.objective < 1e-30 && fabs(c.x[0] - 0.04) < 1e-12 && fabs(c.x[1] + 0.003) < 1e-12);
+    c = port_cell(k, 9, w, 8, scaled, 9, limits, 0.05, 0.2);
+    EXPECT(!c.some && c.faces == 0);
+}
+
+static void *all(void *nothing)
+{
+    ranges();
+    slices();
+    points();
+    surfaces();
+    diagnostics();
+    inside();
+    return nothing;
+}
+
+int main(void)
+{
+    layouts();
+    pthread_attr_t small;
+    pthread_t thread;
+    pthread_attr_init(&small);
+    EXPECT(pthread_attr_setstacksize(&small, 256 << 10) == 0);
+    EXPECT(pthread_create(&thread, &small, all, NULL) == 0 && pthread_join(thread, NULL) == 0);
+    printf("%d passed, %d failed\n", passed, failed);
+    return failed != 0;
+}

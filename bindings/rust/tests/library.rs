@@ -1,0 +1,114 @@
+//! The library through the safe functions: good and bad input.
+
+use kesupayro::{answer, fit, house, raw, FitConfig, Quote, Refused};
+
+/// Nine quotes off a smile.
+fn smile() -> Vec<Quote> {
+    (0..9u64)
+        .map(|i| {
+            let k = -0.3 + 0.075 * i as f64;
+            let w = 0.01 + 0.1 * (-0.3 * k + k.hypot(0.15)) + 1e-5 * (i % 3) as f64;
+            Quote { number: 300 + i, k, w, weight: 1.0 }
+        })
+        .collect()
+}
+
+#[test]
+fn nine_copies_change_nothing_but_the_count() {
+    let once = smile();
+    let mut nine = once.clone();
+    nine.extend([once[4]; 8]);
+    let (a, b) = (fit(0.5, None, &once).unwrap(), fit(0.5, None, &nine).unwrap());
+    assert_eq!((a.read, a.kept, b.read, b.kept), (9, 9, 17, 9));
+    assert_eq!((a.slice, &a.points, a.counts), (b.slice, &b.points, b.counts));
+}
+
+#[test]
+fn fit_and_fit_slice_agree() {
+    let quotes = smile();
+    let column = |f: fn(&Quote) -> f64| quotes.iter().map(f).collect::<Vec<_>>();
+    let (k, w, weight) = (column(|q| q.k), column(|q| q.w), column(|q| q.weight));
+    let (mut residuals, mut capped) = (vec![f64::NAN; 40], vec![99; 9]);
+    let raw = raw::fit_slice(0.5, FitConfig::default(), &k, &w, &weight, &mut residuals, &mut capped);
+    let read = fit(0.5, None, &quotes).unwrap();
+    assert_eq!(raw.number, 0);
+    assert_eq!((raw.slice, raw.counts, raw.active), (read.slice, read.counts, read.active));
+    assert_eq!([raw.objective, raw.objective_params, raw.lee_margin, raw.a_margin, raw.rmse_vol], [read.objective, read.objective_params, read.lee_margin, read.a_margin, read.rmse_vol]);
+    let rows: Vec<f64> = read.points.iter().flat_map(|p| [p.k, p.w, p.fitted, p.residual]).collect();
+    assert_eq!(residuals[..36], rows[..]);
+    assert!(residuals[36..].iter().all(|x| x.is_nan()) && capped == [99; 9]);
+}
+
+#[test]
+fn a_heavy_quote_is_capped() {
+    let mut quotes = smile();
+    quotes[6].weight = 16.0;
+    assert_eq!(fit(0.5, None, &quotes).unwrap().capped, [6]);
+}
+
+#[test]
+fn every_refusal_has_its_case() {
+    let good = smile();
+    let with = |change: fn(&mut Quote)| {
+        let mut quotes = smile();
+        quotes.iter_mut().for_each(change);
+        quotes
+    };
+    let set = |change: fn(&mut FitConfig)| {
+        let mut c = FitConfig::default();
+        change(&mut c);
+        c
+    };
+    let refused = |tau, c: Option<&FitConfig>, q: &[Quote]| fit(tau, c, q).unwrap_err();
+    assert_eq!(refused(0.5, Some(&set(|c| c.grid = 4)), &good), Refused::Settings);
+    assert_eq!(refused(f64::NAN, None, &good), Refused::Tau);
+    assert_eq!(refused(0.5, None, &good[..4]), Refused::TooFew { observed: 4, required: 5 });
+    assert_eq!(refused(0.5, Some(&set(|c| c.min_observations = usize::MAX)), &[]), Refused::TooFew { observed: 0, required: u64::MAX });
+    assert_eq!(refused(0.5, None, &with(|q| q.k = 0.1)), Refused::NoSpan);
+    assert_eq!(refused(0.5, None, &with(|q| q.weight = if q.number == 300 { 5e-324 } else { 1e300 })), Refused::Weights);
+    assert_eq!(refused(0.5, None, &with(|q| q.w = if q.number % 2 == 0 { 2e200 } else { 1e200 })), Refused::NoFace);
+    assert_eq!(refused(0.25, None, &with(|q| q.w = 0.01)), Refused::GridEdge);
+    assert!(matches!(refused(0.5, Some(&set(|c| c.max_rmse_vol = 1e-9)), &good), Refused::Rmse { rmse_vol, max_rmse_vol } if rmse_vol > max_rmse_vol));
+    assert_eq!(refused(0.5, None, &with(|q| q.w = -1.0)), Refused::BadObservation);
+    assert_eq!(refused(0.5, Some(&set(|c| c.grid = 256)), &good), Refused::Size);
+    assert_eq!(refused(0.5, None, &vec![good[0]; 257]), Refused::Malformed);
+    assert_eq!(refused(0.5, None, &good[..4]).to_string(), "too few quotes: 4 left, 5 needed");
+}
+
+#[test]
+fn the_printed_example_of_the_rules() {
+    let nine = [Quote { number: 7, k: 0.0, w: 0.25, weight: 1.0 }; 9];
+    let file = house(0.25, None, &nine);
+    let mut by_hand = vec![0, 0, 0, 0, 1, 0, 0, 0, 0, 0, 0, 0, 0, 0, 0xd0, 0x3f, 9, 0, 0, 0];
+    for _ in 0..9 {
+        by_hand.extend([7, 0, 0, 0, 0, 0, 0, 0, 0, 0, 0, 0, 0, 0, 0, 0, 0, 0, 0, 0, 0, 0, 0xd0, 0x3f, 0, 0, 0, 0, 0, 0, 0xf0, 0x3f]);
+    }
+    assert_eq!(file, by_hand);
+    assert_eq!(answer(&file), "read 9 kept 1\nrefused 3 1 5\n");
+    assert_eq!(answer(&file[1..]), "refused 43 0 0\n");
+    assert_eq!(answer(&[]), "refused 43 0 0\n");
+}
+
+#[test]
+fn short_room_is_left_as_it_was() {
+    let file = house(0.25, None, &[]);
+    let whole = answer(&file).len();
+    let mut out = [b'#'; 64];
+    assert_eq!(raw::run(&file, &mut out[..whole - 1]), whole);
+    assert_eq!(raw::run(&file, &mut []), whole);
+    assert_eq!(out, [b'#'; 64]);
+}
+
+#[test]
+fn settings_of_their_own() {
+    let c = FitConfig::default();
+    assert_eq!((c.grid, c.refinements, c.max_recentres, c.min_observations), (21, 12, 40, 5));
+    assert_eq!(house(1.0, Some(&c), &[]).len(), 108);
+    assert_eq!(fit(0.5, Some(&c), &smile()), fit(0.5, None, &smile()));
+}
+
+#[test]
+fn elementary_functions() {
+    assert_eq!((raw::sqrt(2.25), raw::hypot(3.0, 4.0), raw::ln(1.0), raw::exp(0.0)), (1.5, 5.0, 0.0, 1.0));
+    assert!(raw::sqrt(-1.0).is_nan() && raw::ln(-1.0).is_nan() && raw::exp(f64::NAN).is_nan());
+}

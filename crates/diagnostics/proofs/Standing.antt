@@ -1,0 +1,99 @@
+-- The test of the lent room, by division; the states of the two loops, and their invariants. Assumes nothing.
+use mathlib.Core.Path.{_≡_, refl, sym, _∙_, ap}
+use mathlib.Core.Bool.{Bool, true, false, cond}
+use mathlib.Core.List.{List}
+use Prim.Native.Nat.{ℕ, _+_, _*_, _/_, _^_, _≤_, _<_}
+use native.Mathlib.Nat.{div-lt-iff-lt-mul, mul-zero, mul-le-mul-right}
+use native.Mathlib.Omega.{arith}
+use lib.Dec.{ltb}
+use lib.Ieee.{Float}
+use borrow.Author.Tests.{lt-ltb, le-ltb, ltb-true, ltb-false}
+use Rattle.diagnostics.specs.declared.grid.Walk.{Walk}
+use Rattle.diagnostics.specs.declared.points.Seen.{Seen}
+use lib.ListN.{length}
+use Rattle.laws.specs.Loop.{for}
+use Rattle.diagnostics.specs.declared.report.DiagnosticsConfig.{DiagnosticsConfig}
+use Rattle.diagnostics.specs.Walk.{State, standing, visitOf, PointFn, rowTurn, rowOf, walkTurn}
+use Rattle.diagnostics.specs.Diagnostics.{Outcome, diagnoseNumber, reportOf, reported, outcome}
+use Rattle.diagnostics.specs.declared.report.SurfaceDiagnostics.{SurfaceDiagnostics}
+use Rattle.diagnostics.specs.declared.report.Diagnosed.{Diagnosed}
+use Rattle.diagnostics.specs.declared.report.Diagnosed.the-variants.{Done}
+use Rattle.surface.specs.declared.types.Run.{Run}
+
+pub same-walk : {a b : Walk} {l : List Float} → a ≡ b → standing a l ≡ standing b l
+same-walk {a} {b} {l} e = ap (λ (w : Walk). standing w l) e
+
+-- two tests that say the same
+same-by : (a b c d : ℕ) → (a < b → c < d) → (c < d → a < b) → (s t : Bool) → ltb a b ≡ s → ltb c d ≡ t → s ≡ t
+same-by a b c d f g true true e h = refl
+same-by a b c d f g true false e h = absurd (omega (arith, f (ltb-true a b e), ltb-false c d h))
+same-by a b c d f g false true e h = absurd (omega (arith, g (ltb-true c d h), ltb-false a b e))
+same-by a b c d f g false false e h = refl
+
+pub same-test : (a b c d : ℕ) → (a < b → c < d) → (c < d → a < b) → ltb a b ≡ ltb c d
+same-test a b c d f g = same-by a b c d f g (ltb a b) (ltb c d) refl refl
+
+pub no-tau : (room nk nt : ℕ) → nt ≡ 0 → false ≡ ltb room (3 * (nk * nt))
+no-tau room nk nt z = sym (le-ltb room (3 * (nk * nt)) (rw (z, mul-zero) (omega arith)))
+
+pub by-division : (room nk nt : ℕ) → (nt ≡ 0 → ⊥) → ltb (room / 3 / nt) nk ≡ ltb room (3 * (nk * nt))
+by-division room nk nt nz = same-test (room / 3 / nt) nk room (3 * (nk * nt)) there back
+  where
+    pos : 0 < nt
+    pos = omega (arith, nz)
+
+    three : 0 < 3
+    three = omega arith
+
+    there : room / 3 / nt < nk → room < 3 * (nk * nt)
+    there h = let a = div-lt-iff-lt-mul pos .0 h in let b = div-lt-iff-lt-mul three .0 a in omega (arith, b)
+
+    back : room < 3 * (nk * nt) → room / 3 / nt < nk
+    back h = let a : room < nk * nt * 3 = omega (arith, h) in div-lt-iff-lt-mul pos .1 (div-lt-iff-lt-mul three .1 a)
+
+-- at the head of a row's loop: what is left to do, done to the present state, is the whole; and there is room
+pub record RowInv (f : PointFn) (tol : DiagnosticsConfig) (axis : List Float) (k : Float) (room₀ : List Float) (s₀ : Walk) (end′ : ℕ) (room : List Float) (s : Walk) (j : ℕ) : Type 0 where
+  pub end : end′ ≡ length axis
+  pub fits : length axis < 2 ^ 64
+  pub room-for : 3 * (s₀ .failed + length axis) ≤ length room₀
+  pub same : length room ≡ length room₀
+  pub few : s .failed ≤ s₀ .failed + j
+  pub within : j ≤ end′
+  pub left : for j end′ (rowTurn f tol axis k) (standing s room) ≡ for 0 end′ (rowTurn f tol axis k) (standing s₀ room₀)
+
+-- the same of the loop over k
+pub record WalkInv (f : PointFn) (tol : DiagnosticsConfig) (ks axis : List Float) (room₀ : List Float) (s₀ : Walk) (end′ : ℕ) (room : List Float) (s : Walk) (i : ℕ) : Type 0 where
+  pub end : end′ ≡ length ks
+  pub fits : length ks < 2 ^ 64
+  pub room-for : 3 * (length ks * length axis) ≤ length room₀
+  pub same : length room ≡ length room₀
+  pub few : s .failed ≤ i * length axis
+  pub left : for i end′ (walkTurn f tol ks axis) (standing s room) ≡ for 0 end′ (walkTurn f tol ks axis) (standing s₀ room₀)
+
+-- room for one more row
+pub row-room : (i nk nt f l : ℕ) → i < nk → f ≤ i * nt → 3 * (nk * nt) ≤ l → 3 * (f + nt) ≤ l
+row-room i nk nt f l h few room = let a : (i + 1) * nt ≤ nk * nt = mul-le-mul-right nt (omega arith) in omega arith
+
+-- a visit of what is seen, and a loop from a walk, by another name of it
+pub visit-of : (st : State) {a b : Seen} (k tau : Float) (tol : DiagnosticsConfig) {z : State} → z ≡ visitOf st a k tau tol → a ≡ b → z ≡ visitOf st b k tau tol
+visit-of st k tau tol e h = e ∙ ap (λ (s : Seen). visitOf st s k tau tol) h
+
+pub loop-from : (g : ℕ → State → State) (b : ℕ) (room : List Float) {x y : Walk} {z : State} → z ≡ for 0 b g (standing x room) → x ≡ y → z ≡ for 0 b g (standing y room)
+loop-from g b room e h = e ∙ ap (λ (w : Walk). for 0 b g (standing w room)) h
+
+no-refusal : (b : Bool) (m : ℕ) → cond b 12 m ≡ 0 → b ≡ false
+no-refusal true m h = absurd (omega (arith, h))
+no-refusal false m h = refl
+
+-- what the tests say of a call that is not refused
+pub room-enough : (run : Run) (ks axis : List Float) (tol : DiagnosticsConfig) (room : ℕ) {r : ℕ} → r ≡ diagnoseNumber run ks axis tol room → r ≡ 0 → 3 * (length ks * length axis) ≤ room
+unfolding diagnoseNumber
+room-enough run ks axis tol room {r} e z = ltb-false room (3 * (length ks * length axis)) (no-refusal (ltb room (3 * (length ks * length axis))) _ (sym e ∙ z))
+
+pub report-is : {w : Walk} {room : List Float} {rep : SurfaceDiagnostics} {st : State} → rep ≡ reportOf w → standing w room ≡ st → outcome (Done rep) room ≡ reported st
+unfolding reported
+report-is {w} {room} e h = ap (λ (r : SurfaceDiagnostics). outcome (Done r) room) e ∙ ap reported h
+
+-- an outcome's two halves
+pub halves : (o : Outcome) {d : Diagnosed} {zs : List Float} → outcome d zs ≡ o → (d ≡ o .answer) × (zs ≡ o .room)
+halves o e = (ap (λ (x : Outcome). x .answer) e, ap (λ (x : Outcome). x .room) e)

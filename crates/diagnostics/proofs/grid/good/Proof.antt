@@ -1,0 +1,18 @@
+-- `diagnostics::grid::good` meets its contract. Assumes nothing.
+use Rattle.diagnostics.specs.Walk.{goodOf}
+use borrow.Author.Needs.{needs}
+use Rattle.diagnostics.proofs.grid.good.Statement.{statement}
+use Rattle.diagnostics.proofs.grid.good.Tie as tie
+
+returns : tie.Need-returns
+unfolding goodOf
+returns c = cc
+
+pub good-spec : {M : Type 1} → statement M
+good-spec =
+    tie.close
+    (tie.spec
+    (λ c κs. search needs)
+    (λ c κs. search needs)
+    (λ c κs. search needs)
+    returns)

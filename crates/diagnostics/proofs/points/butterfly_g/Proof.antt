@@ -1,0 +1,14 @@
+-- `diagnostics::points::butterfly_g` meets its contract. Assumes nothing.
+use Rattle.diagnostics.specs.Walk.{butterflyOf}
+use Rattle.diagnostics.proofs.points.butterfly_g.Statement.{statement}
+use Rattle.diagnostics.proofs.points.butterfly_g.Tie as tie
+
+returns : tie.Need-returns
+unfolding butterflyOf
+returns c = cc
+
+pub butterfly-g-spec : {M : Type 1} → statement M
+butterfly-g-spec =
+    tie.close
+    (tie.spec
+    returns)

@@ -1,0 +1,2 @@
+-- What the function proofs share.
+pub mod Told
