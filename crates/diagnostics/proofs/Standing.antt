@@ -8,6 +8,8 @@ use native.Mathlib.Omega.{arith}
 use lib.Dec.{ltb}
 use lib.Ieee.{Float}
 use borrow.Author.Tests.{lt-ltb, le-ltb, ltb-true, ltb-false}
+use Rattle.diagnostics.specs.declared.tally.Check.{Check}
+use Rattle.diagnostics.specs.declared.grid.Previous.{Previous}
 use Rattle.diagnostics.specs.declared.grid.Walk.{Walk}
 use Rattle.diagnostics.specs.declared.points.Seen.{Seen}
 use lib.ListN.{length}
@@ -97,3 +99,8 @@ report-is {w} {room} e h = ap (λ (r : SurfaceDiagnostics). outcome (Done r) roo
 -- an outcome's two halves
 pub halves : (o : Outcome) {d : Diagnosed} {zs : List Float} → outcome d zs ≡ o → (d ≡ o .answer) × (zs ≡ o .room)
 halves o e = (ap (λ (x : Outcome). x .answer) e, ap (λ (x : Outcome). x .room) e)
+
+-- a walk after a good point, tally by tally
+pub good-by : {b b′ s s′ g g′ : Check} (n : ℕ) (p : Previous) → b ≡ b′ → s ≡ s′ → g ≡ g′
+    → _≡_ {A = Walk} (record { butterfly = b; slope = s; gap = g; failed = n; previous = p }) (record { butterfly = b′; slope = s′; gap = g′; failed = n; previous = p })
+good-by n p e h k = λ i. record { butterfly = e i; slope = h i; gap = k i; failed = n; previous = p }
