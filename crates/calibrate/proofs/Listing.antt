@@ -10,7 +10,7 @@ use Rattle.laws.specs.Loop.{turns, for}
 use Rattle.laws.specs.Floats.{at}
 use Rattle.laws.proofs.Rooms.{put-next}
 use Rattle.weights.specs.Weights.{cappedAt}
-use Rattle.search.proofs.Turns.{for-next}
+use Rattle.laws.proofs.Loops.{for-next}
 
 module _ (cap : Float) (ws : List Float) where
   -- the positions among the first i

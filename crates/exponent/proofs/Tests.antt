@@ -34,10 +34,6 @@ below-no-nan nan y t = absurd t
 below-no-nan (inf s) y t = tt
 below-no-nan (fin s m e) y t = tt
 
-pub one-over-zero : one /f +0 ≡ inf false
-unfolding div ofBits
-one-over-zero = refl
-
 pub minus-one-over-zero : neg one /f +0 ≡ inf true
 unfolding div ofBits neg
 minus-one-over-zero = refl

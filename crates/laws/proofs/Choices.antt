@@ -29,6 +29,11 @@ pub cond-ind : {A : Type 0} (P : A → Type 0) (b : Bool) {x y : A} → P x → 
 cond-ind P true p q = p
 cond-ind P false p q = q
 
+-- the same where each arm may know the test
+pub cond-test : {A : Type 0} (P : A → Type 0) (b : Bool) {x y : A} → (b ≡ true → P x) → (b ≡ false → P y) → P (cond b x y)
+cond-test P true p q = p refl
+cond-test P false p q = q refl
+
 -- what is computed holds of what it is equal to
 pub is : {A : Type 0} (p : A → Bool) {x y : A} {b : Bool} → x ≡ y → p x ≡ b → p y ≡ b
 is p e h = sym (ap p e) ∙ h

@@ -5,7 +5,7 @@ use mathlib.Core.List.{List}
 use mathlib.Core.Logic.{⊎-elim}
 use Prim.Native.Nat.{ℕ, zero, suc, _+_, _-_, _<_, _≤_}
 use native.Mathlib.Omega.{arith}
-use native.Mathlib.Nat.{add-zero}
+use native.Mathlib.Nat.{add-zero, zero-add}
 use Rattle.laws.specs.Loop.{turns, for, search-on, first}
 
 module _ {S : Type 0} (f : ℕ → S → S) (i b : ℕ) where
@@ -37,6 +37,24 @@ pub turns-last : {S : Type 0} (f : ℕ → S → S) (k i : ℕ) (s : S) → turn
 unfolding turns
 turns-last f zero i s = ap (λ (n : ℕ). f n s) (sym (add-zero i))
 turns-last f (suc k) i s = turns-last f k (i + 1) (f i s) ∙ ap (λ (n : ℕ). f n (turns f k (i + 1) (f i s))) (omega arith)
+
+-- a loop whose state is that after so many turns: the start, one turn more, the end
+module _ {S : Type 0} (f : ℕ → S → S) (s : S) where
+  pub for-next : (k : ℕ) → for 0 (k + 1) f s ≡ f k (for 0 k f s)
+  for-next k =
+      let e : k + 1 - 0 ≡ suc k = omega arith in
+      let d : k ≡ k - 0 = omega arith in
+      ap (λ (n : ℕ). turns f n 0 s) e ∙ turns-last f k 0 s ∙ ap (λ (n : ℕ). f n (turns f k 0 s)) (zero-add k) ∙ ap (λ (n : ℕ). f k (turns f n 0 s)) d
+
+  pub none-yet : s ≡ for 0 0 f s
+  unfolding turns
+  none-yet = refl
+
+  pub one-more : (k : ℕ) {t r : S} → t ≡ for 0 k f s → r ≡ f k t → r ≡ for 0 (k + 1) f s
+  one-more k e h = h ∙ ap (f k) e ∙ sym (for-next k)
+
+  pub all-done : {k n : ℕ} {t : S} → k ≡ n → t ≡ for 0 k f s → t ≡ for 0 n f s
+  all-done e h = h ∙ ap (λ (n : ℕ). for 0 n f s) e
 
 -- what holds at the start of a loop, and is kept by each turn, holds at its end
 module _ {S : Type 0} (f : ℕ → S → S) (P : ℕ → S → Type 0) (b : ℕ) (step : (j : ℕ) (t : S) → j < b → P j t → P (j + 1) (f j t)) where

@@ -1,5 +1,4 @@
 pub mod Sums
-pub mod Turns
 pub mod Passes
 pub mod Trail
 pub mod Least

@@ -11,7 +11,7 @@ use lib.Ieee.{lt}
 use borrow.Author.Tests.{ltb-true}
 use Rattle.laws.specs.Loop.{turns}
 use Rattle.laws.proofs.Loops.{turns-last}
-use Rattle.laws.proofs.Choices.{cond-ind, both, false-true}
+use Rattle.laws.proofs.Choices.{cond-ind, cond-test, both, false-true}
 use Rattle.search.specs.declared.PassBest.{PassBest}
 use Rattle.search.specs.declared.Counts.{Counts}
 use Rattle.search.specs.declared.Found.{Found}
@@ -22,11 +22,7 @@ use Rattle.search.specs.Search.{CellFn, passOf, placeOf, foundOf, improv
 use Rattle.search.proofs.Sums.{sum, sum-none, sum-next}
 use Rattle.search.proofs.Passes.{below-next, facesAt, rows-counts}
 
--- ---- a choice by its test, and the cases of a move and of a pass
-
-pub cond-test : {A : Type 0} (P : A → Type 0) (b : Bool) {x y : A} → (b ≡ true → P x) → (b ≡ false → P y) → P (cond b x y)
-cond-test P true p q = p refl
-cond-test P false p q = q refl
+-- ---- the cases of a move and of a pass
 
 pub moved-ind :
     (P : Search → Type 0) (p : Plan) (s : Search) (n : Counts) (b : PassBest) →

@@ -4,7 +4,8 @@ use mathlib.Core.Path.{sym, subst}
 use lib.Dec.{T}
 use mathlib.Core.Bool.{Bool, not}
 use Rattle.exponent.specs.Exp.{expOf}
-use Rattle.exponent.proofs.Tests.{one-over-zero, not-above-746, turned}
+use Rattle.laws.proofs.Values.{div-one-zero}
+use Rattle.exponent.proofs.Tests.{not-above-746, turned}
 use Rattle.exponent.proofs.exp.Statement.{statement}
 use Rattle.exponent.proofs.exp.Tie as tie
 
@@ -14,7 +15,7 @@ returns c = rw (c .if1 .taken)
 
 returns-2 : tie.Need-returns-2
 unfolding expOf
-returns-2 c = rw (c .before .if1 .left, c .if2 .taken) one-over-zero
+returns-2 c = rw (c .before .if1 .left, c .if2 .taken) div-one-zero
 
 returns-3 : tie.Need-returns-3
 unfolding expOf

@@ -1,7 +1,8 @@
 -- `ln` meets its contract: each exit is the arm that `lnOf` picks. Assumes nothing.
 use Rattle.exponent.specs.Ln.{lnOf}
 use Rattle.laws.proofs.Floats.{div-zeros, self-same}
-use Rattle.exponent.proofs.Tests.{one-over-zero, minus-one-over-zero, lifted-no-nan}
+use Rattle.laws.proofs.Values.{div-one-zero}
+use Rattle.exponent.proofs.Tests.{minus-one-over-zero, lifted-no-nan}
 use Rattle.exponent.proofs.ln.Statement.{statement}
 use Rattle.exponent.proofs.ln.Tie as tie
 
@@ -19,21 +20,21 @@ returns-3 c = rw (c .before .before .if1 .left, c .before .if2 .left, c .if3 .ta
 
 returns-4 : tie.Need-returns-4
 unfolding lnOf
-returns-4 c = rw (c .before .before .before .if1 .left, c .before .before .if2 .left, c .before .if3 .left, rw one-over-zero at (c .if4 .taken))
+returns-4 c = rw (c .before .before .before .if1 .left, c .before .before .if2 .left, c .before .if3 .left, rw div-one-zero at (c .if4 .taken))
 
 normal-requires : tie.Need-normal-requires
 normal-requires c κs = lifted-no-nan _ (c .before .before .before .if2 .left) (c .if5 .taken)
 
 returns-5 : tie.Need-returns-5
 unfolding lnOf
-returns-5 c = rw (c .before .before .before .before .before .if1 .left, c .before .before .before .before .if2 .left, c .before .before .before .if3 .left, rw one-over-zero at (c .before .before .if4 .left), c .before .if5 .taken) (cc)
+returns-5 c = rw (c .before .before .before .before .before .if1 .left, c .before .before .before .before .if2 .left, c .before .before .before .if3 .left, rw div-one-zero at (c .before .before .if4 .left), c .before .if5 .taken) (cc)
 
 normal-requires-2 : tie.Need-normal-requires-2
 normal-requires-2 c κs = self-same _ (c .before .before .before .before .if1 .left)
 
 returns-6 : tie.Need-returns-6
 unfolding lnOf
-returns-6 c = rw (c .before .before .before .before .before .if1 .left, c .before .before .before .before .if2 .left, c .before .before .before .if3 .left, rw one-over-zero at (c .before .before .if4 .left), c .before .if5 .left) (cc)
+returns-6 c = rw (c .before .before .before .before .before .if1 .left, c .before .before .before .before .if2 .left, c .before .before .before .if3 .left, rw div-one-zero at (c .before .before .if4 .left), c .before .if5 .left) (cc)
 
 pub ln-spec : {M : Type 1} → statement M
 ln-spec =

@@ -7,7 +7,7 @@ use Rattle.search.specs.Run.{fitCell}
 use Rattle.search.proofs.Sums.{sum, sum-most}
 use Rattle.search.proofs.Passes.{CountsTo, facesAt, row-counts}
 use Rattle.search.proofs.NoBetterFace.{fit-most}
-use Rattle.search.proofs.Turns.{none-yet, one-more, all-done}
+use Rattle.laws.proofs.Loops.{none-yet, one-more, all-done}
 use borrow.Author.Needs.{needs}
 use native.Mathlib.Omega.{arith}
 use Rattle.search.proofs.grid.row.Statement.{statement}
