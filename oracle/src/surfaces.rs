@@ -230,7 +230,7 @@ pub mod made {
             k_lo: -width,
             k_hi: width * r.between(0.2, 1.0),
         };
-        match r.below(14) {
+        match r.below(40) {
             0 => s.rho = r.one_of(&[1.0, -1.0]),
             1 => s.b = 0.0,
             2 => s.b = 2.0 / (1.0 + s.rho.abs()),

@@ -44,7 +44,11 @@ impl std::error::Error for Refusal {}
 
 /// The value, or the refusal where the number is not 0.
 fn answered<T>(number: u32, value: T) -> Result<T, Refusal> {
-    if number == 0 { Ok(value) } else { Err(Refusal(number)) }
+    if number == 0 {
+        Ok(value)
+    } else {
+        Err(Refusal(number))
+    }
 }
 
 impl KRange {

@@ -33,7 +33,10 @@ fn fit_and_fit_slice_agree() {
     let read = fit(0.5, None, &quotes).unwrap();
     assert_eq!(raw.number, 0);
     assert_eq!((raw.slice, raw.counts, raw.active), (read.slice, read.counts, read.active));
-    assert_eq!([raw.objective, raw.objective_params, raw.lee_margin, raw.a_margin, raw.rmse_vol], [read.objective, read.objective_params, read.lee_margin, read.a_margin, read.rmse_vol]);
+    assert_eq!(
+        [raw.objective, raw.objective_params, raw.lee_margin, raw.a_margin, raw.rmse_vol],
+        [read.objective, read.objective_params, read.lee_margin, read.a_margin, read.rmse_vol]
+    );
     let rows: Vec<f64> = read.points.iter().flat_map(|p| [p.k, p.w, p.fitted, p.residual]).collect();
     assert_eq!(residuals[..36], rows[..]);
     assert!(residuals[36..].iter().all(|x| x.is_nan()) && capped == [99; 9]);
@@ -68,7 +71,9 @@ fn every_refusal_has_its_case() {
     assert_eq!(refused(0.5, None, &with(|q| q.weight = if q.number == 300 { 5e-324 } else { 1e300 })), Refused::Weights);
     assert_eq!(refused(0.5, None, &with(|q| q.w = if q.number % 2 == 0 { 2e200 } else { 1e200 })), Refused::NoFace);
     assert_eq!(refused(0.25, None, &with(|q| q.w = 0.01)), Refused::GridEdge);
-    assert!(matches!(refused(0.5, Some(&set(|c| c.max_rmse_vol = 1e-9)), &good), Refused::Rmse { rmse_vol, max_rmse_vol } if rmse_vol > max_rmse_vol));
+    assert!(
+        matches!(refused(0.5, Some(&set(|c| c.max_rmse_vol = 1e-9)), &good), Refused::Rmse { rmse_vol, max_rmse_vol } if rmse_vol > max_rmse_vol)
+    );
     assert_eq!(refused(0.5, None, &with(|q| q.w = -1.0)), Refused::BadObservation);
     assert_eq!(refused(0.5, Some(&set(|c| c.grid = 256)), &good), Refused::Size);
     assert_eq!(refused(0.5, None, &vec![good[0]; 257]), Refused::Malformed);

@@ -19,6 +19,7 @@ use Rattle.search.proofs.NoBetterFace.{fit-most, fit-counted}
 use Rattle.weights.specs.Weights.{scaledOf, cappedOf}
 use Rattle.calibrate.specs.declared.FitConfig.{FitConfig}
 use Rattle.calibrate.specs.declared.FitAnswer.{FitAnswer}
+use Rattle.calibrate.specs.Settings.{defaultsOf}
 use Rattle.calibrate.specs.Entry.{rangeOf, entryNumber}
 use Rattle.calibrate.specs.End.{noCounts, refusedWith, highestOf, paramsHold, rmseHolds, acceptedOf, endOf}
 use Rattle.calibrate.specs.Fit.{planOf, limitsOf, fitSearch, bestEnd, searchEnd, decidedOf, cappedAs, fitOf}
@@ -112,3 +113,14 @@ module _ (tau : Float) (c : FitConfig) (ks ws ts : List Float) (room slots : ℕ
       go : (t : Bool) → eqb (entryNumber tau c ks ws ts room slots) 0 ≡ t → FitCounted c (fitOf tau c ks ws ts room slots .counts)
       go true e = let h = eqb-true _ _ e in subst (FitCounted c) (sym (counts-are h)) (late h)
       go false e = subst (FitCounted c) (sym (counts-none (eqb-false _ _ e))) (none-counted c)
+
+-- with the default settings at most 93 passes, 41,013 cells and 2,624,832 faces
+pub record DefaultCounts (n : Counts) : Type 0 where
+  pub passes : n .passes ≤ 93
+  pub cells : n .cells ≤ 41_013
+  pub faces : n .faces ≤ 2_624_832
+
+pub default-counts : (tau : Float) (ks ws ts : List Float) (room slots : ℕ) → DefaultCounts (fitOf tau defaultsOf ks ws ts room slots .counts)
+default-counts tau ks ws ts room slots =
+    let h = fit-counts tau defaultsOf ks ws ts room slots in
+    record { passes = h .passes; cells = omega (arith, h .passes, h .cells); faces = omega (arith, h .passes, h .cells, h .faces-most) }

@@ -6,3 +6,4 @@ pub mod Contract
 pub mod EachNumber
 pub mod FitCounts
 pub mod NoBetterFit
+pub mod WeightsOfTheFit

@@ -1,5 +1,9 @@
 -- No second answer meets the contract of a public function of crate `port`. Written by tools/settle from the contracts. Assumes nothing.
 use Prim.Native.Nat.{_≤_, ℕ}
+use Rattle.calibrate.specs.Fit.{Fitted}
+use Rattle.calibrate.specs.Settings.{defaultsOf}
+use Rattle.calibrate.specs.declared.FitAnswer.{FitAnswer}
+use Rattle.calibrate.specs.declared.FitConfig.{FitConfig}
 use Rattle.cell.specs.Cell.{innerOf}
 use Rattle.cell.specs.declared.Cell.{Cell}
 use Rattle.cell.specs.declared.Limits.{Limits}
@@ -37,6 +41,14 @@ use lib.ListN.{length}
 use mathlib.Core.Bool.{Bool}
 use mathlib.Core.List.{List}
 use mathlib.Core.Path.{_≡_}
+
+-- port::port_default_config
+pub port-default-config : {r₁ r₂ : FitConfig} → (r₁ ≡ defaultsOf) → (r₂ ≡ defaultsOf) → r₁ ≡ r₂
+port-default-config h₁ h₂ = settled h₁ h₂
+
+-- port::port_fit_slice
+pub port-fit-slice : (tau : Float) (config : FitConfig) (k : List Float) (w : List Float) (weight : List Float) (residuals : List Float) (capped : List ℕ) {r₁ r₂ : FitAnswer} {residuals-exit₁ residuals-exit₂ : List Float} {capped-exit₁ capped-exit₂ : List ℕ} → (Fitted tau config k w weight residuals capped r₁ residuals-exit₁ capped-exit₁) → (Fitted tau config k w weight residuals capped r₂ residuals-exit₂ capped-exit₂) → (r₁ ≡ r₂) × (residuals-exit₁ ≡ residuals-exit₂) × (capped-exit₁ ≡ capped-exit₂)
+port-fit-slice tau config k w weight residuals capped {r₁} {r₂} {residuals-exit₁} {residuals-exit₂} {capped-exit₁} {capped-exit₂} h₁ h₂ = (cc, cc, cc)
 
 -- port::port_sqrt
 pub port-sqrt : (x : Float) {r₁ r₂ : Float} → (r₁ ≡ rootOf x) → (r₂ ≡ rootOf x) → r₁ ≡ r₂

@@ -1,7 +1,7 @@
 -- The five counts are those of the search as defined: as many passes, recentres and shrinks as the settings allow at most; every cell of the grid in every pass;
 -- the faces are the sum over all cells of all passes; the passes counted are those made, a refusing one among them.
 use mathlib.Core.Path.{_≡_, sym, ap, _∙_}
-use mathlib.Core.Bool.{true, _&&_}
+use mathlib.Core.Bool.{true, false, _&&_}
 use Prim.Native.Nat.{ℕ, _+_, _*_, _≤_, _<_}
 use native.Mathlib.Omega.{arith}
 use native.Mathlib.Nat.{mul-assoc, mul-comm, mul-one, mul-le-mul, le-refl, le-trans}
@@ -16,7 +16,7 @@ use Rattle.search.specs.Run.{sizesHold}
 use Rattle.search.specs.Roomy.{Roomy}
 use Rattle.search.proofs.Sums.{sum, sum-least, sum-most}
 use Rattle.search.proofs.Trail.{trail}
-use Rattle.search.proofs.Least.{cellOfPass, Refusal, refusal}
+use Rattle.search.proofs.Least.{cellOfPass, Refusal, refusal, Yield, yields}
 
 pub record Counted (top : ℕ) (f : CellFn) (p : Plan) (s : Search) : Type 0 where
   pub passes : s .counts .passes ≤ p .refinements + 2 * p .«max_recentres» + 1
@@ -33,6 +33,8 @@ pub record Counted (top : ℕ) (f : CellFn) (p : Plan) (s : Search) : Type 0 whe
   pub ended : s .going ≡ true → s .counts .passes ≡ p .refinements + 2 * p .«max_recentres» + 1
   -- a refusing pass is the last one counted, and no cell of it has a face
   pub refusing : s .refused ≡ true → Refusal f p s
+  -- and where the search does not refuse, each pass made has a cell with a face
+  pub yielding : s .refused ≡ false → Yield f p s
 
 module _ (f : CellFn) (p : Plan) (q : ℕ) where
   abbrev n : ℕ
@@ -78,6 +80,7 @@ counted top f least most p =
       all-made = t .same;
       ended = t .on;
       refusing = refusal f p k;
+      yielding = yields f p k;
     }
 
 -- ---- document 01's sizes: no count wraps

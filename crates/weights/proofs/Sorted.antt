@@ -2,7 +2,7 @@
 use mathlib.Core.Path.{_≡_, refl, ap, _∙_}
 use mathlib.Core.Bool.{Bool, true, false, not, cond}
 use mathlib.Core.List.{List, [], _∷_}
-use Prim.Native.Nat.{ℕ, _+_, _*_, _-_, _/_, _%_}
+use Prim.Native.Nat.{ℕ, suc, _+_, _*_, _-_, _/_, _%_, _<_}
 use native.Mathlib.Omega.{arith}
 use lib.Dec.{T}
 use lib.ListN.{length}
@@ -30,6 +30,12 @@ Rising (x ∷ xs) = Each (λ (y : Float). T (le x y)) xs × Rising xs
 unfoldable pub count : (Float → Bool) → List Float → ℕ
 count t [] = 0
 count t (x ∷ xs) = cond (t x) 1 0 + count t xs
+
+-- what holds at each place holds of each element
+pub each-at : (P : Float → Type 0) (l : List Float) → ((i : ℕ) → i < length l → P (at l i)) → Each P l
+unfolding Each
+each-at P [] h = tt
+each-at P (x ∷ xs) h = (h 0 (omega arith), each-at P xs (λ i k. h (suc i) (omega arith)))
 
 -- ---- what holds of each weight holds of each sorted one
 
