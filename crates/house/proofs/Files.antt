@@ -12,7 +12,6 @@ use borrow.Author.Tests.{leb-true, eqb-true}
 use Rattle.laws.specs.Choice.{unless}
 use Rattle.laws.proofs.Choices.{both}
 use Rattle.bits.specs.Bytes.{u32At}
-use Rattle.house.specs.declared.House.{House}
 use Rattle.house.specs.declared.House.the-variants.{Malformed, File}
 use Rattle.house.specs.declared.Quote.{Quote}
 use Rattle.house.specs.File.{houseOf, houseWith, quoteAt, quotes}

@@ -1,6 +1,6 @@
 -- A file with repeats keeps what the file that holds only the first of each keeps: dropping a second time drops nothing, what is kept stands in its order,
 -- and check 10 holds of what is kept exactly where it holds of all. Assumes nothing.
-use Prim.Native.Nat.{ℕ, suc, _≤_}
+use Prim.Native.Nat.{_≤_}
 use mathlib.Core.Path.{_≡_, refl, sym, ap, _∙_}
 use mathlib.Core.Bool.{Bool, true, false, _||_, _&&_}
 use mathlib.Core.List.{List, [], _∷_, _++_}
@@ -8,9 +8,7 @@ use native.Mathlib.Omega.{arith}
 use lib.Dec.{eqb}
 use lib.ListN.{length}
 use borrow.Author.Tests.{eqb-true, eq-eqb}
-use Rattle.laws.specs.Floats.{f64}
 use Rattle.laws.proofs.Choices.{both, false-true}
-use Rattle.calibrate.specs.Entry.{passes}
 use Rattle.house.specs.declared.Quote.{Quote}
 use Rattle.house.specs.Check.{quotePasses, allPass}
 use Rattle.house.specs.Repeats.{sameQuote, among, one, keptAfter, kept}

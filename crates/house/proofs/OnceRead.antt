@@ -1,30 +1,25 @@
 -- The file that holds only the first of each record, read: the same settings, tau and refusal, and the records that the file with repeats keeps.
 use Prim.Native.Nat.{ℕ, zero, suc, _+_, _*_, _<_, _≤_, _^_}
 use mathlib.Core.Path.{_≡_, refl, sym, ap, _∙_}
-use mathlib.Core.Bool.{Bool, true, false, _&&_, cond}
+use mathlib.Core.Bool.{Bool, true, false}
 use mathlib.Core.List.{List, [], _∷_, _++_}
 use native.Mathlib.Omega.{arith}
 use native.Mathlib.Nat.{add-zero}
-use lib.Dec.{eqb, leb}
 use lib.ListN.{length, getD}
-use lib.Ieee.{Float}
 use borrow.Author.Tests.{le-leb}
-use Rattle.laws.specs.Choice.{unless}
 use Rattle.laws.specs.Floats.{f64}
-use Rattle.bits.specs.Bytes.{u32At, u64At}
+use Rattle.bits.specs.Bytes.{u64At}
 use Rattle.calibrate.specs.declared.FitConfig.{FitConfig}
 use Rattle.calibrate.specs.Entry.{sizesHold}
-use Rattle.house.specs.declared.House.{House}
-use Rattle.house.specs.declared.House.the-variants.{Malformed, File}
+use Rattle.house.specs.declared.House.the-variants.{File}
 use Rattle.house.specs.declared.Quote.{Quote}
 use Rattle.house.specs.File.{houseOf, f64At, tauOf, settingsAt, configOf, quoteAt, quotes}
-use Rattle.house.specs.Check.{allPass}
 use Rattle.house.specs.Repeats.{among, one, keptAfter, kept}
 use Rattle.house.specs.Taken.{recordsAt, refusalOf, keptFor, keptOf}
 use Rattle.house.specs.Encode.{fileBytes, wordsFrom, onceFor, onceOf}
 use Rattle.house.proofs.Files.{file-is, quotes-length}
 use Rattle.house.proofs.Once.{kept-once, kept-short, kept-passes}
-use Rattle.house.proofs.ReadBack.{Wide, wordsOf, AllWide, settings-same, house-back, settings-back, tau-back, records-back}
+use Rattle.house.proofs.ReadBack.{Wide, AllWide, settings-same, house-back, settings-back, tau-back, records-back}
 
 -- a list of bytes
 abbrev pub Bytes : List ℕ → Type 0

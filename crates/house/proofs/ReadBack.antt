@@ -1,20 +1,16 @@
 -- What is written in the house format is read back: counts, settings, tau and records. Assumes nothing.
-use Prim.Native.Nat.{ℕ, zero, suc, _+_, _*_, _/_, _%_, _<_, _≤_, _^_}
+use Prim.Native.Nat.{ℕ, zero, suc, _+_, _*_, _<_, _≤_, _^_}
 use mathlib.Core.Path.{_≡_, refl, sym, ap, _∙_}
-use mathlib.Core.Bool.{Bool, true, false, cond}
-use mathlib.Core.List.{List, [], _∷_, _++_, append-assoc, append-nil}
+use mathlib.Core.List.{List, [], _∷_, _++_, append-assoc}
 use native.Mathlib.Omega.{arith}
 use native.Mathlib.Nat.{add-assoc, add-zero}
-use lib.Dec.{eqb}
 use lib.ListN.{length, getD, length-append}
 use lib.Seq.{getD-append-add}
 use borrow.Author.Tests.{le-leb, eq-eqb}
-use Rattle.laws.specs.Floats.{f64}
 use Rattle.bits.specs.Bytes.{u32At, u64At}
-use Rattle.calibrate.specs.declared.FitConfig.{FitConfig}
 use Rattle.house.specs.declared.Quote.{Quote}
 use Rattle.house.specs.declared.House.the-variants.{File}
-use Rattle.house.specs.File.{houseOf, f64At, tauOf, settingsBy, settingsAt, quoteAt, quotes}
+use Rattle.house.specs.File.{houseOf, settingsBy, quoteAt, quotes}
 use Rattle.house.specs.Encode.{le, wordsBytes, quotesBytes, fileBytes}
 use Rattle.house.proofs.Files.{read}
 

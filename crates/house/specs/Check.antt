@@ -6,6 +6,7 @@ use Rattle.laws.specs.Floats.{f64}
 use Rattle.calibrate.specs.Entry.{passes}
 use Rattle.house.specs.declared.Quote.{Quote}
 
+-- the bits of a record as floats
 abbrev pub kOf : Quote → Float
 kOf q = f64 (q .k)
 
@@ -19,6 +20,7 @@ weightOf q = f64 (q .weight)
 unfoldable pub quotePasses : Quote → Bool
 quotePasses q = passes (kOf q) (wOf q) (weightOf q)
 
+-- check 10 over some records
 unfoldable pub allPass : List Quote → Bool
 allPass [] = true
 allPass (q ∷ qs) = quotePasses q && allPass qs

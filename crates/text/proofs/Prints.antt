@@ -1,8 +1,7 @@
 -- How some values print, by computation on the definitions: every NaN, both zeros, the largest count. Assumes nothing.
-use Prim.Native.Nat.{ℕ}
 use mathlib.Core.Path.{_≡_, refl}
 use mathlib.Core.Bool.{true, false}
-use mathlib.Core.List.{List, [], _∷_}
+use mathlib.Core.List.{[], _∷_}
 use lib.Ieee.{nan, toBits, ofBits, binary64}
 use Rattle.laws.specs.Loop.{turns}
 use Rattle.laws.specs.Floats.{f64}

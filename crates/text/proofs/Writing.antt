@@ -1,17 +1,16 @@
 -- Laws of writing: one text after another, digits, and lists of values as they are written. Assumes nothing.
-use Prim.Native.Nat.{ℕ, zero, suc, _+_, _*_, _-_, _/_, _%_, _≤_, _<_}
+use Prim.Native.Nat.{ℕ, zero, suc, _+_, _-_, _/_, _%_, _≤_, _<_}
 use mathlib.Core.Path.{_≡_, refl, sym, ap, _∙_}
 use mathlib.Core.Bool.{Bool, true, false, cond}
 use mathlib.Core.List.{List, [], _∷_, _++_, append-assoc, append-nil}
 use native.Mathlib.Omega.{arith}
 use native.Mathlib.Nat.{mod-lt, zero-add, sub-zero}
 use native.Mathlib.Numerals.{add-one, sub-one}
-use lib.ListN.{length, take, drop, set, getD, length-append, length-take, length-drop, take-append-drop}
-use lib.Seq.{set-split, take-suc, take-at, drop-at, length-take-le, drop-append-add, take-append-seam, drop-drop, take-all}
+use lib.ListN.{length, take, drop, set, getD, length-append, length-drop, take-append-drop}
+use lib.Seq.{set-split, take-suc, take-at, drop-at, length-take-le, drop-drop, take-all}
 use Rattle.laws.specs.Loop.{turns, for}
 use Rattle.laws.proofs.Loops.{turns-last}
 use lib.Dec.{ltb}
-use lib.Ieee.{Float, toBits, binary64}
 use borrow.Author.Tests.{lt-ltb, le-ltb, le-leb, lt-leb}
 use Rattle.text.specs.Digits.{glyphOf, digitsOf, each}
 use Rattle.laws.proofs.Choices.{if-true, if-false}

@@ -17,6 +17,7 @@ earlyText number read = cond (eqb number 43) [] (readLine read read) ++ refusedL
 unfoldable pub refusedOf : FitAnswer → List ℕ
 refusedOf a = cond (eqb (a .number) 9) (refusedFloats (a .«rmse_vol») (a .«max_rmse_vol»)) (refusedLine (a .number) (a .observed) (a .required))
 
+-- refused after the search
 abbrev pub isLate : ℕ → Bool
 isLate number = leb 6 number && leb number 9
 
@@ -24,14 +25,15 @@ isLate number = leb 6 number && leb number 9
 unfoldable pub refusalText : FitAnswer → List ℕ
 refusalText a = cond (isLate (a .number)) (searchLine (a .counts)) [] ++ refusedOf a
 
+-- with its `read` line
 unfoldable pub refusedText : ℕ → ℕ → FitAnswer → List ℕ
 refusedText read kept a = readLine read kept ++ refusalText a
 
--- accepted
+-- accepted: the slice, the search, the margins, the active constraints ..
 unfoldable pub figuresText : FitAnswer → List ℕ
 figuresText a = fitLine (a .slice) ++ (searchLine (a .counts) ++ (marginsLine a ++ activeLine (a .active)))
 
--- with at most 256 points, of four numbers each, and as many capped positions
+-- .. then the capped positions and a line for each four residual numbers, at most 256 of either
 unfoldable pub acceptedText : ℕ → ℕ → FitAnswer → List Float → List ℕ → List ℕ
 acceptedText read kept a residuals capped =
     unless (leb (length residuals) 1024 && leb (length capped) 256) []

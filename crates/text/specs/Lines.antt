@@ -21,6 +21,7 @@ ascii (c ◂ s) = code c ∷ ascii s
 abbrev pub line : List ℕ → List ℕ → List ℕ
 line name values = name ++ (values ++ ascii "\n")
 
+-- with floats, and with counts
 abbrev pub floatsLine : List ℕ → List Float → List ℕ
 floatsLine name xs = line name (floatsOf xs)
 
@@ -31,20 +32,24 @@ countsLine name ns = line name (countsOf ns)
 unfoldable pub readLine : ℕ → ℕ → List ℕ
 readLine read kept = ascii "read" ++ (countsOf (read ∷ []) ++ countsLine (ascii " kept") (kept ∷ []))
 
+-- the fitted slice
 unfoldable pub fitLine : SviSlice → List ℕ
 fitLine s = floatsLine (ascii "fit") (s .tau ∷ s .a ∷ s .b ∷ s .rho ∷ s .m ∷ s .sigma ∷ [])
 
+-- the five counts of the search
 unfoldable pub searchLine : Counts → List ℕ
 searchLine n = countsLine (ascii "search") (n .passes ∷ n .recentres ∷ n .shrinks ∷ n .cells ∷ n .faces ∷ [])
 
+-- the objective, of the search and of the slice, the room to two bounds, and the error in volatility
 unfoldable pub marginsLine : FitAnswer → List ℕ
 marginsLine a =
     floatsLine (ascii "margins") (a .objective ∷ a .«objective_params» ∷ a .«lee_margin» ∷ a .«a_margin» ∷ a .«rmse_vol» ∷ [])
 
+-- seven digits, in constraint order
 unfoldable pub activeLine : List Bool → List ℕ
 activeLine active = line (ascii "active ") (marksOf active)
 
--- how many, and their positions
+-- how many weights were capped, and their positions
 unfoldable pub cappedLine : List ℕ → List ℕ
 cappedLine capped = ascii "capped" ++ (countsOf (length capped ∷ []) ++ line [] (countsOf capped))
 

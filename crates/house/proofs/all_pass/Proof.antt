@@ -1,6 +1,7 @@
+-- `house::all_pass` meets its contract. Assumes nothing.
 use borrow.Author.Needs.{needs}
 use Prim.Native.Nat.{_+_, _*_, _≤_}
-use mathlib.Core.Path.{_≡_, refl}
+use mathlib.Core.Path.{_≡_}
 use lib.ListN.{length}
 use Rattle.house.specs.File.{quotes}
 use Rattle.house.specs.Check.{allPass}
@@ -14,26 +15,8 @@ Inv-loop s from n at₀ left₀ at left = (at + 32 * left ≤ length s) × (allP
 abbrev μ-loop : tie.MeasureT-loop
 μ-loop s from n at₀ left₀ at left = left
 
-loop-holds : tie.Need-loop-holds Inv-loop μ-loop
-loop-holds c = search needs
-
-quote-at-requires : tie.Need-quote-at-requires Inv-loop μ-loop
-quote-at-requires c κs = search needs
-
-quote-passes-requires : tie.Need-quote-passes-requires Inv-loop μ-loop
-quote-passes-requires c κs = search needs
-
 returns : tie.Need-returns Inv-loop μ-loop
 returns c = bad (c .before .before .quote-at .result) _ (c .before .before .before .before .loop .at) (c .before .before .before .before .loop .left) (c .before .quote-passes .result) _ (c .before .before .before .loop-test .taken) (c .before .before .quote-at .ensures) (c .before .quote-passes .ensures) (c .before .before .before .before .loop .inv .1) (c .if1 .taken)
-
-add-at : tie.Need-add-at Inv-loop μ-loop
-add-at c = search needs
-
-sub-left : tie.Need-sub-left Inv-loop μ-loop
-sub-left c = search needs
-
-loop-less : tie.Need-loop-less Inv-loop μ-loop
-loop-less c = search needs
 
 loop-again : tie.Need-loop-again Inv-loop μ-loop
 loop-again c = (search needs, good (c .before .before .quote-at .result) _ (c .before .before .before .before .loop .at) (c .before .before .before .before .loop .left) (c .before .quote-passes .result) _ (c .before .before .before .loop-test .taken) (c .before .before .quote-at .ensures) (c .before .quote-passes .ensures) (c .before .before .before .before .loop .inv .1) (c .if1 .left))
@@ -47,12 +30,12 @@ all-pass-spec =
     (tie.spec
     Inv-loop
     μ-loop
-    loop-holds
-    quote-at-requires
-    quote-passes-requires
+    (λ c. search needs)
+    (λ c κs. search needs)
+    (λ c κs. search needs)
     returns
-    add-at
-    sub-left
-    loop-less
+    (λ c. search needs)
+    (λ c. search needs)
+    (λ c. search needs)
     loop-again
     returns-2)

@@ -1,8 +1,9 @@
+-- `house::keep` meets its contract. Assumes nothing.
 use borrow.Author.Needs.{needs}
 use native.Mathlib.Omega.{arith}
-use Prim.Native.Nat.{_+_, _*_, _-_, _≤_, _<_}
+use Prim.Native.Nat.{_-_, _≤_, _<_}
 use mathlib.Core.Logic.{⊎-elim}
-use mathlib.Core.Path.{_≡_, ap, _∙_}
+use mathlib.Core.Path.{ap, _∙_}
 use lib.ListN.{length}
 use Rattle.house.proofs.Columns.{Column, column-start, column-skip, column-keep, column-end}
 use Rattle.house.proofs.Repeating.{rest, rest-start, rest-end, rest-drop, rest-keep}
@@ -28,54 +29,6 @@ loop-holds c =
     let a = c .before .before .before .before .args in
     let e = rest-start (a .s .now) (a .from) (a .n) in
     (search needs, search needs, column-start kOf _ _ (a .k .now) e, column-start wOf _ _ (a .w .now) e, column-start weightOf _ _ (a .weight .now) e)
-
-repeated-requires : tie.Need-repeated-requires Inv-loop μ-loop
-repeated-requires c κs = search needs
-
-mul-quote-at : tie.Need-mul-quote-at Inv-loop μ-loop
-mul-quote-at c = search needs
-
-add-quote-at : tie.Need-add-quote-at Inv-loop μ-loop
-add-quote-at c = search needs
-
-quote-at-requires : tie.Need-quote-at-requires Inv-loop μ-loop
-quote-at-requires c κs = search needs
-
-f64-of-requires : tie.Need-f64-of-requires Inv-loop μ-loop
-f64-of-requires c κs = search needs
-
-mul-k : tie.Need-mul-k Inv-loop μ-loop
-mul-k c = search needs
-
-slice-write-k : tie.Need-slice-write-k Inv-loop μ-loop
-slice-write-k c = search needs
-
-f64-of-requires-2 : tie.Need-f64-of-requires-2 Inv-loop μ-loop
-f64-of-requires-2 c κs = search needs
-
-mul-w : tie.Need-mul-w Inv-loop μ-loop
-mul-w c = search needs
-
-slice-write-w : tie.Need-slice-write-w Inv-loop μ-loop
-slice-write-w c = search needs
-
-f64-of-requires-3 : tie.Need-f64-of-requires-3 Inv-loop μ-loop
-f64-of-requires-3 c κs = search needs
-
-mul-weight : tie.Need-mul-weight Inv-loop μ-loop
-mul-weight c = search needs
-
-slice-write-weight : tie.Need-slice-write-weight Inv-loop μ-loop
-slice-write-weight c = search needs
-
-add-m : tie.Need-add-m Inv-loop μ-loop
-add-m c = search needs
-
-add-i : tie.Need-add-i Inv-loop μ-loop
-add-i c = search needs
-
-loop-less : tie.Need-loop-less Inv-loop μ-loop
-loop-less c = search needs
 
 loop-again : tie.Need-loop-again Inv-loop μ-loop
 loop-again c =
@@ -108,15 +61,6 @@ loop-again c =
     ))
     (c .if1 .came)
 
-same-length : tie.Need-same-length Inv-loop μ-loop
-same-length c = search needs
-
-same-length-2 : tie.Need-same-length-2 Inv-loop μ-loop
-same-length-2 c = search needs
-
-same-length-3 : tie.Need-same-length-3 Inv-loop μ-loop
-same-length-3 c = search needs
-
 returns : tie.Need-returns Inv-loop μ-loop
 returns c =
     let l = c .before in
@@ -135,24 +79,24 @@ keep-spec =
     Inv-loop
     μ-loop
     loop-holds
-    repeated-requires
-    mul-quote-at
-    add-quote-at
-    quote-at-requires
-    f64-of-requires
-    mul-k
-    slice-write-k
-    f64-of-requires-2
-    mul-w
-    slice-write-w
-    f64-of-requires-3
-    mul-weight
-    slice-write-weight
-    add-m
-    add-i
-    loop-less
+    (λ c κs. search needs)
+    (λ c. search needs)
+    (λ c. search needs)
+    (λ c κs. search needs)
+    (λ c κs. search needs)
+    (λ c. search needs)
+    (λ c. search needs)
+    (λ c κs. search needs)
+    (λ c. search needs)
+    (λ c. search needs)
+    (λ c κs. search needs)
+    (λ c. search needs)
+    (λ c. search needs)
+    (λ c. search needs)
+    (λ c. search needs)
+    (λ c. search needs)
     loop-again
-    same-length
-    same-length-2
-    same-length-3
+    (λ c. search needs)
+    (λ c. search needs)
+    (λ c. search needs)
     returns)

@@ -1,6 +1,7 @@
+-- `house::repeated` meets its contract. Assumes nothing.
 use borrow.Author.Needs.{needs}
 use Prim.Native.Nat.{_+_, _*_, _≤_}
-use mathlib.Core.Path.{_≡_, refl}
+use mathlib.Core.Path.{_≡_}
 use lib.ListN.{length}
 use Rattle.house.proofs.Repeating.{hit, miss, nowhere}
 use Rattle.house.specs.File.{quotes}
@@ -15,39 +16,12 @@ Inv-loop s from i q at₀ left₀ at left =
 abbrev μ-loop : tie.MeasureT-loop
 μ-loop s from i q at₀ left₀ at left = left
 
-mul-quote-at : tie.Need-mul-quote-at Inv-loop μ-loop
-mul-quote-at c = search needs
-
-add-quote-at : tie.Need-add-quote-at Inv-loop μ-loop
-add-quote-at c = search needs
-
-quote-at-requires : tie.Need-quote-at-requires Inv-loop μ-loop
-quote-at-requires c κs = search needs
-
-loop-holds : tie.Need-loop-holds Inv-loop μ-loop
-loop-holds c = search needs
-
-quote-at-requires-2 : tie.Need-quote-at-requires-2 Inv-loop μ-loop
-quote-at-requires-2 c κs = search needs
-
-same-requires : tie.Need-same-requires Inv-loop μ-loop
-same-requires c κs = search needs
-
 returns : tie.Need-returns Inv-loop μ-loop
 returns c =
     let y = c .before in
     let e = y .before in
     let l = e .before .before in
     hit (l .before .quote-at .result) _ (e .quote-at2 .result) _ (l .loop .at) (l .loop .left) _ (y .same .result) (e .before .loop-test .taken) (e .quote-at2 .ensures) (y .same .ensures) (l .loop .inv .1) (l .before .quote-at .ensures) (c .if1 .taken)
-
-add-at : tie.Need-add-at Inv-loop μ-loop
-add-at c = search needs
-
-sub-left : tie.Need-sub-left Inv-loop μ-loop
-sub-left c = search needs
-
-loop-less : tie.Need-loop-less Inv-loop μ-loop
-loop-less c = search needs
 
 loop-again : tie.Need-loop-again Inv-loop μ-loop
 loop-again c =
@@ -67,15 +41,15 @@ repeated-spec =
     (tie.spec
     Inv-loop
     μ-loop
-    mul-quote-at
-    add-quote-at
-    quote-at-requires
-    loop-holds
-    quote-at-requires-2
-    same-requires
+    (λ c. search needs)
+    (λ c. search needs)
+    (λ c κs. search needs)
+    (λ c. search needs)
+    (λ c κs. search needs)
+    (λ c κs. search needs)
     returns
-    add-at
-    sub-left
-    loop-less
+    (λ c. search needs)
+    (λ c. search needs)
+    (λ c. search needs)
     loop-again
     returns-2)

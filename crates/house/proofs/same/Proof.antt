@@ -1,5 +1,6 @@
-use Rattle.house.specs.Repeats.{sameQuote}
+-- `house::same` meets its contract. Assumes nothing.
 use mathlib.Core.Path.{refl}
+use Rattle.house.specs.Repeats.{sameQuote}
 use Rattle.house.proofs.same.Statement.{statement}
 use Rattle.house.proofs.same.Tie as tie
 

@@ -1,5 +1,6 @@
-use Rattle.calibrate.specs.Entry.{sizesHold}
+-- `house::sizes_hold` meets its contract. Assumes nothing.
 use mathlib.Core.Path.{refl}
+use Rattle.calibrate.specs.Entry.{sizesHold}
 use Rattle.house.proofs.sizes_hold.Statement.{statement}
 use Rattle.house.proofs.sizes_hold.Tie as tie
 

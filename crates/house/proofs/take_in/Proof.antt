@@ -1,22 +1,14 @@
+-- `house::take_in` meets its contract. Assumes nothing.
 use Prim.Native.Nat.{ℕ}
 use native.Mathlib.Omega.{arith}
-use mathlib.Core.Path.{_≡_, refl, sym, ap, _∙_}
+use mathlib.Core.Path.{_≡_, sym, _∙_}
+use borrow.Author.Needs.{needs}
 use Rattle.laws.proofs.Rooms.{kept}
 use Rattle.house.proofs.Files.{file-is}
 use Rattle.house.proofs.Taking.{malformed, refused, accepted, column-file, passed}
 use Rattle.house.specs.Check.{kOf, wOf, weightOf}
-use borrow.Author.Needs.{needs}
 use Rattle.house.proofs.take_in.Statement.{statement}
 use Rattle.house.proofs.take_in.Tie as tie
-
-house-of-requires : tie.Need-house-of-requires
-house-of-requires c κs = search needs
-
-enum-known-h : tie.Need-enum-known-h
-enum-known-h c = search needs
-
-enum-told : tie.Need-enum-told
-enum-told c = search needs
 
 returns : tie.Need-returns
 returns c =
@@ -49,15 +41,6 @@ keep-requires c κs =
     let p = passed (c .before .before .before .before .before .before .before .before .before .before .before .before .before .args .s .now) (c .before .before .before .before .before .before .h .given .0 .0) (c .before .before .before .before .before .before .h .given .0 .1 .0) _ _ _ (sym (c .before .before .before .before .refusal-of .ensures) ∙ c .before .before .before .if1 .left) in
     omega arith
 
-same-length : tie.Need-same-length
-same-length c = search needs
-
-same-length-2 : tie.Need-same-length-2
-same-length-2 c = search needs
-
-same-length-3 : tie.Need-same-length-3
-same-length-3 c = search needs
-
 returns-3 : tie.Need-returns-3
 returns-3 c =
     let f = (sym (c .before .before .before .before .before .before .before .before .before .before .before .before .before .h .given .1) ∙ c .before .before .before .before .before .before .before .before .before .before .before .before .before .before .before .house-of .ensures) in
@@ -67,16 +50,16 @@ pub take-in-spec : {M : Type 1} → statement M
 take-in-spec =
     tie.close
     (tie.spec
-    house-of-requires
-    enum-known-h
-    enum-told
+    (λ c κs. search needs)
+    (λ c. search needs)
+    (λ c. search needs)
     returns
     refusal-of-requires
     returns-2
     mul-keep
     add-keep
     keep-requires
-    same-length
-    same-length-2
-    same-length-3
+    (λ c. search needs)
+    (λ c. search needs)
+    (λ c. search needs)
     returns-3)

@@ -1,10 +1,11 @@
+-- `text::digits::digits` meets its contract. Assumes nothing.
 use borrow.Author.Needs.{needs}
 use native.Mathlib.Omega.{arith}
-use Rattle.text.proofs.Writing.{wrote-none, wrote-as, wrote-long, then, digits-none, digits-first, digits-more, digits-short, below-16}
 use Prim.Native.Nat.{ℕ, _<_, _-_, _/_}
 use mathlib.Core.Path.{_∙_}
 use borrow.Fn.Kinds.{In}
 use borrow.Fn.PlainCycle.{Measures, is, falls, and}
+use Rattle.text.proofs.Writing.{wrote-none, wrote-as, wrote-long, then, digits-none, digits-first, digits-more, digits-short, below-16}
 use Rattle.text.proofs.digits.digits.Reads as digits
 use Rattle.text.proofs.digits.digits.Kinds as digits-kinds
 use Rattle.text.proofs.digits.+digits.Lts-digits as digits-lts

@@ -1,8 +1,8 @@
+-- `text::digits::counts` meets its contract. Assumes nothing.
 use borrow.Author.Needs.{needs}
 use native.Mathlib.Omega.{arith}
-use Prim.Native.Nat.{ℕ, _+_, _*_, _-_, _≤_, _<_}
-use mathlib.Core.Path.{_≡_, refl, sym, ap, _∙_}
-use mathlib.Core.List.{List}
+use Prim.Native.Nat.{_+_, _*_, _-_, _≤_}
+use mathlib.Core.Path.{_≡_, refl}
 use lib.ListN.{length, take}
 use Rattle.text.specs.Place.{Wrote}
 use Rattle.text.specs.Digits.{decimalOf, countsOf, each}
@@ -21,24 +21,6 @@ loop-holds : tie.Need-loop-holds Inv-loop μ-loop
 unfolding each
 loop-holds c = (search needs, search needs, refl, wrote-none _ _ (omega arith))
 
-put-requires : tie.Need-put-requires Inv-loop μ-loop
-put-requires c κs = search needs
-
-mul-decimal : tie.Need-mul-decimal Inv-loop μ-loop
-mul-decimal c = search needs
-
-shared-slice-read-decimal : tie.Need-shared-slice-read-decimal Inv-loop μ-loop
-shared-slice-read-decimal c = search needs
-
-decimal-requires : tie.Need-decimal-requires Inv-loop μ-loop
-decimal-requires c κs = search needs
-
-add-j : tie.Need-add-j Inv-loop μ-loop
-add-j c = search needs
-
-loop-less : tie.Need-loop-less Inv-loop μ-loop
-loop-less c = search needs
-
 loop-again : tie.Need-loop-again Inv-loop μ-loop
 loop-again c =
     let long = wrote-long (c .before .before .before .before .before .before .before .put .ensures) in
@@ -48,9 +30,6 @@ loop-again c =
       omega (arith, long, longer),
       each-more decimalOf _ _ _ _ _ _ _ _ _ _ (c .before .before .before .before .before .before .before .before .before .before .loop .j) 0 (c .before .before .before .before .before .before .before .before .before .loop-test .taken) refl (c .before .before .before .before .before .before .before .before .before .before .loop .inv .3) (c .before .before .before .before .before .before .before .put .ensures) (c .before .before .decimal .ensures .0),
     )
-
-same-length : tie.Need-same-length Inv-loop μ-loop
-same-length c = search needs
 
 returns : tie.Need-returns Inv-loop μ-loop
 returns c = (each-done decimalOf _ (c .before .loop .j) (c .loop-test .left) (c .before .loop .inv .3), omega arith)
@@ -62,12 +41,12 @@ counts-spec =
     Inv-loop
     μ-loop
     loop-holds
-    put-requires
-    mul-decimal
-    shared-slice-read-decimal
-    decimal-requires
-    add-j
-    loop-less
+    (λ c κs. search needs)
+    (λ c. search needs)
+    (λ c. search needs)
+    (λ c κs. search needs)
+    (λ c. search needs)
+    (λ c. search needs)
     loop-again
-    same-length
+    (λ c. search needs)
     returns)

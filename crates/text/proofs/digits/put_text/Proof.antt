@@ -1,10 +1,11 @@
+-- `text::digits::put_text` meets its contract. Assumes nothing.
 use borrow.Author.Needs.{needs}
 use native.Mathlib.Omega.{arith}
-use Prim.Native.Nat.{_+_, _-_, _≤_, _<_}
-use mathlib.Core.Path.{_≡_, refl, sym, ap, _∙_}
+use Prim.Native.Nat.{_+_, _-_, _≤_}
+use mathlib.Core.Path.{_≡_, refl}
 use lib.ListN.{length, take}
 use Rattle.text.specs.Place.{Wrote}
-use Rattle.text.proofs.Writing.{wrote-none, then, wrote-long, text-more, text-done}
+use Rattle.text.proofs.Writing.{wrote-none, wrote-long, text-more, text-done}
 use Rattle.text.proofs.digits.put_text.Statement.{statement}
 use Rattle.text.proofs.digits.put_text.Tie as tie
 
@@ -18,27 +19,12 @@ abbrev μ-loop : tie.MeasureT-loop
 loop-holds : tie.Need-loop-holds Inv-loop μ-loop
 loop-holds c = (search needs, search needs, refl, wrote-none _ _ (omega arith))
 
-shared-slice-read-put : tie.Need-shared-slice-read-put Inv-loop μ-loop
-shared-slice-read-put c = search needs
-
-put-requires : tie.Need-put-requires Inv-loop μ-loop
-put-requires c κs = search needs
-
-add-j : tie.Need-add-j Inv-loop μ-loop
-add-j c = search needs
-
-loop-less : tie.Need-loop-less Inv-loop μ-loop
-loop-less c = search needs
-
 loop-again : tie.Need-loop-again Inv-loop μ-loop
 loop-again c =
     let p = c .before .before in
     let l = p .before .before .before .before in
     let long = wrote-long (p .put .ensures) in
     (search needs, omega (arith, p .put .ensures .next), omega (arith, long), text-more _ _ _ _ _ _ _ (l .loop .j) (p .before .before .before .loop-test .taken) (l .loop .inv .3) (p .put .ensures))
-
-same-length : tie.Need-same-length Inv-loop μ-loop
-same-length c = search needs
 
 returns : tie.Need-returns Inv-loop μ-loop
 returns c = text-done _ (c .before .loop .j) (c .loop-test .left) (c .before .loop .inv .3)
@@ -50,10 +36,10 @@ put-text-spec =
     Inv-loop
     μ-loop
     loop-holds
-    shared-slice-read-put
-    put-requires
-    add-j
-    loop-less
+    (λ c. search needs)
+    (λ c κs. search needs)
+    (λ c. search needs)
+    (λ c. search needs)
     loop-again
-    same-length
+    (λ c. search needs)
     returns)
