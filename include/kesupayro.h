@@ -7,7 +7,10 @@
  * What a caller vouches for, and this is the whole list:
  *   - a pointer with its count points to that many values, which may be read (and written, where it is not const); one without a count
  *     to the one value or array that the declaration names. It is not NULL, even where the count is 0;
- *   - a buffer that is written is lent once: it shares no byte with another buffer of the call, and no other thread touches it meanwhile.
+ *   - a pointer is aligned as its type asks, and a bool that is passed in holds 0 or 1, as C and C++ themselves see to;
+ *   - a buffer that is written is lent once: it shares no byte with another buffer of the call, and no other thread touches it meanwhile;
+ *   - floating-point arithmetic of the calling thread is as a program starts with: it rounds to nearest, keeps subnormal numbers and traps nothing. Linking
+ *     any part of a program with -ffast-math can change that for the whole of it, and with it the last bits of answers (bindings/c/surroundings.c).
  *
  * A refusal is a number (below). It leaves every lent buffer as it was, and the other fields of the answer 0 but for those said.
  * A type here is the Rust's (and the port's) of that name with Port before it.

@@ -58,9 +58,10 @@ class Lines:
     """The lines of an answer, taken one by one."""
 
     def __init__(self, text):
-        self.lines = text.split("\n")
-        if self.lines and self.lines[-1] == "":
-            self.lines.pop()
+        *self.lines, rest = text.split("\n")
+        self.at = len(self.lines)
+        if rest:
+            self.fail("the text is cut: the line has no end")
         self.at = 0
 
     def fail(self, why):

@@ -1,7 +1,7 @@
 //! Safe functions over Kesupayro's proved library (include/kesupayro.h): fit the smile of one expiry, put expiries together to a surface.
 //!
 //! [`fit`] is the one to start with: it drops repeated quotes, as the program does. [`surface`] prices off fitted slices, [`raw`] has the fit itself.
-//! Rust's references rule out the two things a C caller has to vouch for, so nothing here is unsafe to call.
+//! Rust's references rule out what a C caller has to vouch for about memory, so nothing here is unsafe to call; that floats round to nearest is what Rust itself assumes.
 //!
 //! ```
 //! use kesupayro::{fit, Quote, Refused};
