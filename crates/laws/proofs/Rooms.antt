@@ -1,12 +1,15 @@
 -- Room that is written from its front, and `written`: what a refusal and an accepted answer leave in it. Assumes nothing.
-use mathlib.Core.Path.{_≡_, refl, sym, ap, _∙_}
+use mathlib.Core.Path.{_≡_, refl, sym, ap, _∙_, subst}
 use mathlib.Core.List.{List, [], _∷_, _++_, append-assoc}
-use Prim.Native.Nat.{ℕ, suc, _+_, _<_}
+use mathlib.Core.Logic.{⊎-elim}
+use Prim.Native.Nat.{ℕ, zero, suc, _+_, _-_, _≤_, _<_}
+use native.Mathlib.Nat.{eq-or-lt-of-le}
 use native.Mathlib.Omega.{arith}
 use lib.ListN.{length, drop, set}
-use lib.Seq.{drop-cons, set-at}
+use lib.Seq.{drop-cons, set-at, set-set, set-comm}
 use borrow.Author.Tests.{eq-eqb, ne-eqb}
-use Rattle.laws.specs.Room.{atFront, written}
+use Rattle.laws.specs.Loop.{turns}
+use Rattle.laws.specs.Room.{atFront, written, filledOn}
 use Rattle.laws.proofs.Choices.{if-true, if-false}
 
 -- one element more behind the n that are written, in front of the room o
@@ -22,3 +25,18 @@ kept number list before h = if-false _ (ne-eqb number 0 h) refl
 pub wrote : {A : Type 0} (number : ℕ) (list before : List A) → number ≡ 0 → atFront list before ≡ written number list before
 unfolding written
 wrote number list before h = if-true _ (eq-eqb number 0 h) refl
+
+-- what stood in a place that is filled does not show
+module _ {A : Type 0} (v : ℕ → A) where
+  over : (k j i : ℕ) (t : List A) (a : A) → j ≤ i → i < j + k → turns (λ i t. set t i (v i)) k j (set t i a) ≡ turns (λ i t. set t i (v i)) k j t
+  unfolding turns
+  over zero j i t a l m = absurd (omega arith)
+  over (suc k) j i t a l m =
+      ⊎-elim
+      (λ (e : j ≡ i). ap (turns (λ i t. set t i (v i)) k (j + 1)) (subst (λ (i : ℕ). set (set t i a) j (v j) ≡ set t j (v j)) e (set-set t j a (v j))))
+      (λ h. ap (turns (λ i t. set t i (v i)) k (j + 1)) (set-comm t i j a (v j) (λ e. omega arith)) ∙ over k (j + 1) i (set t j (v j)) a (omega arith) (omega arith))
+      (eq-or-lt-of-le l)
+
+  pub filled-over : (n i : ℕ) (t : List A) (a : A) → i < n → filledOn n v (set t i a) ≡ filledOn n v t
+  unfolding filledOn
+  filled-over n i t a l = over (n - 0) 0 i t a (omega arith) (omega arith)

@@ -46,7 +46,7 @@ fields-val s (suc x) t h k =
     let e : eqb (suc x) 2047 ≡ false = ne-eqb (suc x) 2047 (λ (z : suc x ≡ 2047). omega arith) in
     rw e (subst (λ (n : ℕ). HasValue (odd 53 s (2 ^ 52 + t) x 1074) s n (2 ^ 1074)) (amount-high x t k) (odd-sign 53 s (2 ^ 52 + t) x 1074))
 
-bits-val : (b : ℕ) → b % 2 ^ 63 < 2047 * 2 ^ 52 → HasValue (ofBits binary64 b) (leb (2 ^ 63) b) (amount (b % 2 ^ 63)) (2 ^ 1074)
+pub bits-val : (b : ℕ) → b % 2 ^ 63 < 2047 * 2 ^ 52 → HasValue (ofBits binary64 b) (leb (2 ^ 63) b) (amount (b % 2 ^ 63)) (2 ^ 1074)
 unfolding ofBits
 bits-val b h =
     let c : b % 2 ^ 63 / 2 ^ 52 * 2 ^ 52 + b % 2 ^ 52 ≡ b % 2 ^ 63 = omega arith in

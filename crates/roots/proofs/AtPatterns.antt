@@ -11,7 +11,8 @@ use lib.Pow.{pow-pos, pow-add}
 use lib.Ieee.{Float, nan, inf, fin, binary64, up, odd, ofFields, ofBits, toBits, fits}
 use lib.Ieee.Exact.{HasValue, odd-sign}
 use Rattle.laws.proofs.Patterns.{of-fields, amount, PartsOf, parted-at, amount-at, mant-pos}
-use Rattle.laws.proofs.Values.{value, units-of}
+use Rattle.laws.specs.Floats.{one}
+use Rattle.laws.proofs.Values.{value, units-of, bits-val}
 use Rattle.roots.specs.Root.{sq, mag, rootUnits, rootMag, rootOf}
 use Rattle.roots.specs.Hypot.{hypotOf}
 use Rattle.roots.specs.Inner.{IsLeast, IsGreatest}
@@ -172,3 +173,7 @@ sides a b g l (inl v) (inl w) = rw (v .1, w .1) (ap rootUnits (add-comm (sq (amo
 sides a b g l (inl v) (inr w) = absurd (omega arith)
 sides a b g l (inr v) (inl w) = absurd (omega arith)
 sides a b g l (inr v) (inr w) = rw (v .1, w .1)
+
+-- a finite number beside 1
+pub beside-one : (x : Float) → T (fits binary64 x) → toBits binary64 x % 2 ^ 63 < 2047 * 2 ^ 52 → rootUnits (sq (amount (toBits binary64 x % 2 ^ 63)) + sq (amount 4607182418800017408)) ≡ hypotOf x one
+beside-one x f h = sym (both x one _ _ _ _ (value x f h) (bits-val 4607182418800017408 (omega arith)))

@@ -96,19 +96,23 @@ between n p q r off e h l = record {
 pub first-small : (w q r : ℕ) → w < 2 ^ 56 → RootPair (0 + w) q r → q < 2 ^ 28
 first-small w q r h P = sq-lt-back q (2 ^ 28) (omega (arith, P .sum))
 
-module _ (xh xl zh zl off p sa sb q r : ℕ)
-    (X : xh * 2 ^ 54 + xl ≡ sa) (Z : (zh * 2 ^ 54 + zl) * p + off ≡ sb)
-    (P : RootPair ((xh + zh + (xl + zl) / 2 ^ 54) * 2 ^ 54 + (xl + zl) % 2 ^ 54) q r) where
-  total : sq q + r ≡ sa + (zh * 2 ^ 54 + zl)
-  total = omega (arith, P .sum)
+-- the sum of two squares, of which the second lost its last digits
+pub sum-is : (xh xl zh zl off p sa sb : ℕ) → xh * 2 ^ 54 + xl ≡ sa → (zh * 2 ^ 54 + zl) * p + off ≡ sb
+    → ((xh + zh + (xl + zl) / 2 ^ 54) * 2 ^ 54 + (xl + zl) % 2 ^ 54) * p + off ≡ sa * p + sb
+sum-is xh xl zh zl off p sa sb X Z =
+    let e : (xh + zh + (xl + zl) / 2 ^ 54) * 2 ^ 54 + (xl + zl) % 2 ^ 54 ≡ sa + (zh * 2 ^ 54 + zl) = omega arith in
+    let g : ((xh + zh + (xl + zl) / 2 ^ 54) * 2 ^ 54 + (xl + zl) % 2 ^ 54) * p ≡ (sa + (zh * 2 ^ 54 + zl)) * p = ap (λ (x : ℕ). x * p) e in
+    omega arith
 
-  pub last-small : xh < 2 ^ 54 → zh < 2 ^ 54 → xl < 2 ^ 54 → zl < 2 ^ 54 → q < 2 ^ 55
-  last-small a b c d = sq-lt-back q (2 ^ 55) (omega (arith, total))
+-- its whole root
+module _ (hi lo off p n q r : ℕ) (N : (hi * 2 ^ 54 + lo) * p + off ≡ n) (P : RootPair (hi * 2 ^ 54 + lo) q r) where
+  pub last-small : hi < 2 ^ 55 → lo < 2 ^ 54 → q < 2 ^ 55
+  last-small a b = sq-lt-back q (2 ^ 55) (omega (arith, P .sum))
 
-  pub last-between : off < p → Between (sa * p + sb) p q (r + off)
+  pub last-between : off < p → Between n p q (r + off)
   last-between h =
-      let e : (sq q + r) * p ≡ (sa + (zh * 2 ^ 54 + zl)) * p = ap (λ (x : ℕ). x * p) total in
-      between (sa * p + sb) p q r off (omega arith) (P .small) h
+      let e : (sq q + r) * p ≡ (hi * 2 ^ 54 + lo) * p = ap (λ (x : ℕ). x * p) (P .sum) in
+      between n p q r off (omega arith) (P .small) h
 
 pub off-small : (off d : ℕ) → off < 2 ^ (d * 2) → d ≤ 26 → off < 2 ^ 52
 off-small off d h k = lt-of-lt-of-le h (pow-mono (let l : d * 2 ≤ 52 = omega arith in l))

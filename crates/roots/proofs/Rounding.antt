@@ -3,7 +3,7 @@ use mathlib.Core.Path.{_≡_, refl, sym, ap, _∙_, subst}
 use mathlib.Core.Bool.{false}
 use mathlib.Core.Logic.{_⊎_, inl, inr}
 use Prim.Native.Nat.{ℕ, suc, _+_, _-_, _*_, _/_, _%_, _^_, _≤_, _<_, compare, Ordering, Ordering·lt, Ordering·eq, Ordering·gt}
-use native.Mathlib.Nat.{eq-or-lt-of-le, mul-le-mul, mul-le-mul-right, mul-lt-mul-of-pos-right, mul-pos, lt-of-lt-of-le, lt-of-le-of-lt, le-trans, div-lt-iff-lt-mul, le-div-iff-mul-le}
+use native.Mathlib.Nat.{eq-or-lt-of-le, mul-le-mul, mul-le-mul-right, mul-lt-mul-of-pos-right, mul-pos, lt-of-lt-of-le, lt-of-le-of-lt, lt-of-mul-lt-mul-right, le-trans, div-lt-iff-lt-mul, le-div-iff-mul-le}
 use native.Mathlib.Omega.{arith}
 use borrow.Author.Tests.{le-ltb}
 use lib.Pow.{pow-pos, pow-add}
@@ -12,10 +12,10 @@ use lib.Ieee.Digits.{size-le}
 use lib.Ieee.Nearest.{nearest-ge}
 use Rattle.laws.proofs.Comparing.{lt-or-le, cmp-lt, cmp-eq, cmp-gt, size-gt}
 use Rattle.laws.proofs.Patterns.{Held, of-held, inf-pattern}
-use Rattle.roots.specs.Root.{sq, rootUnits}
+use Rattle.roots.specs.Root.{sq, isqrt, rootUnits}
 use Rattle.roots.specs.Nearest.{IsFloorRoot}
-use Rattle.roots.specs.Inner.{Between, IsAbove, IsLeast}
-use Rattle.roots.proofs.Squares.{sq-mono, isqrt-of}
+use Rattle.roots.specs.Inner.{Between, Floor, IsAbove, IsLeast}
+use Rattle.roots.proofs.Squares.{sq-mono, sq-lt-back, isqrt-is, isqrt-of}
 
 held-more : (w v k : ℕ) → w ≤ v → Held w k → Held v k
 held-more w v k h (inl l) = inl (omega arith)
@@ -40,6 +40,10 @@ one-most a b r (inr v) = omega arith
 pub least-most : {a b r : ℕ} → IsLeast a b r → r ≤ b
 least-most (inl v) = omega arith
 least-most (inr v) = omega arith
+
+-- what is above a square, told from the number
+pub gap : (n p q : ℕ) → sq q * p ≤ n → n < sq (suc q) * p → Between n p q (n - sq q * p)
+gap n p q l h = record { low = l; high = h; exact = λ z. omega arith; above = λ z. omega arith }
 
 -- ---- `rootUnits` by what decides it
 
@@ -102,7 +106,7 @@ module _ (n e u k q more w : ℕ) (K : 2 ^ k ≡ 2 ^ e * u) (B : Between (4 * n)
       ∙ of-held (w + w % 2) k (held-more w (w + w % 2) k (omega arith) H) (omega arith) j
       ∙ sym (as-units Ordering·eq (cmp-eq _ _ (sym a ∙ unit (2 * w + 1))))
 
-  up-by : k ≤ 2045 → sq ((2 * w + 1) * u) * sq (2 ^ e) < 4 * n → ofBits binary64 (k * 2 ^ 52 + w + 1) ≡ rootUnits n
+  pub up-by : k ≤ 2045 → sq ((2 * w + 1) * u) * sq (2 ^ e) < 4 * n → ofBits binary64 (k * 2 ^ 52 + w + 1) ≡ rootUnits n
   up-by j h =
       ap (λ (x : ℕ). ofBits binary64 x) (let s : k * 2 ^ 52 + w + 1 ≡ k * 2 ^ 52 + suc w = omega arith in s)
       ∙ of-held (suc w) k (held-more w (suc w) k (omega arith) H) W j
@@ -199,3 +203,70 @@ placed q more e a z up r Q E H (inl v) Z U L n B =
     let L′ : IsLeast ((e + 2 - 1) * 2 ^ 52 + q / 4 + up) (2047 * 2 ^ 52) r = rw (v .1) at L in
     let L″ : IsLeast ((e + 1) * 2 ^ 52 + q / 4 + up) (2047 * 2 ^ 52) r = subst (λ (x : ℕ). IsLeast (x * 2 ^ 52 + q / 4 + up) (2047 * 2 ^ 52) r) (let s : e + 2 - 1 ≡ e + 1 = omega arith in s) L′ in
     kept-below n e 2 (e + 1) q more (q / 4) (pow-add 2 e 1) B (omega arith) (omega arith) (inl (omega arith)) (omega arith) z up r Z U′ L″ (omega arith)
+
+-- ---- a value with both middles around the root is the nearest: no whole root has to be known
+
+module _ (n e u k v : ℕ) (K : 2 ^ k ≡ 2 ^ e * u) (lo : sq ((2 * v + 1) * u) * sq (2 ^ e) < 4 * n) (hi : 4 * n < sq ((2 * suc v + 1) * u) * sq (2 ^ e)) where
+  abbrev p : ℕ
+  p = sq (2 ^ e)
+
+  p-pos : 0 < p
+  p-pos = mul-pos (pow-pos e) (pow-pos e)
+
+  abbrev q : ℕ
+  q = isqrt (4 * n / p)
+
+  low : sq q * p ≤ 4 * n
+  low = le-div-iff-mul-le p-pos .0 (isqrt-is (4 * n / p) .low)
+
+  high : 4 * n < sq (suc q) * p
+  high = div-lt-iff-lt-mul p-pos .0 (isqrt-is (4 * n / p) .high)
+
+  less : (a b : ℕ) → sq a * p < sq b * p → a < b
+  less a b h = sq-lt-back a b (lt-of-mul-lt-mul-right p h)
+
+  pub around : 2 ^ 52 ≤ v → suc v < 2 ^ 53 → k ≤ 2045 → ofBits binary64 (k * 2 ^ 52 + suc v) ≡ rootUnits n
+  around l w j = elim (lt-or-le (4 * n) (sq (2 * u * suc v) * p)) [
+    | inl below ↦
+        let a : (2 * v + 1) * u < suc q = less ((2 * v + 1) * u) (suc q) (omega (arith, high)) in
+        let b : q < 2 * u * suc v = less q (2 * u * suc v) (omega (arith, low)) in
+        ap (λ (x : ℕ). ofBits binary64 x) (let s : k * 2 ^ 52 + suc v ≡ k * 2 ^ 52 + v + 1 = omega arith in s)
+        ∙ up-by n e u k q (4 * n - sq q * p) v K (gap (4 * n) p q low high) (omega arith) b (inl l) (omega arith) j lo
+    | inr above ↦
+        let a : 2 * u * suc v < suc q = less (2 * u * suc v) (suc q) (omega (arith, high)) in
+        let b : q < (2 * suc v + 1) * u = less q ((2 * suc v + 1) * u) (omega (arith, low)) in
+        to-lower n e u k q (4 * n - sq q * p) (suc v) K (gap (4 * n) p q low high) (omega arith) (omega arith) (inl (omega arith)) w j b
+  ]
+
+-- the same of a number that is t times the square of 2 ^ e, and less than one such square more
+pub near-around : (n e u k v t : ℕ) → 2 ^ k ≡ 2 ^ e * u → sq ((2 * v + 1) * u) < 4 * t → 4 * t + 4 ≤ sq ((2 * suc v + 1) * u) → Floor n (sq (2 ^ e)) t
+    → 2 ^ 52 ≤ v → suc v < 2 ^ 53 → k ≤ 2045 → ofBits binary64 (k * 2 ^ 52 + suc v) ≡ rootUnits n
+near-around n e u k v t K lo hi F l w j =
+    let p = sq (2 ^ e) in
+    let a : sq ((2 * v + 1) * u) * p < 4 * t * p = mul-lt-mul-of-pos-right lo (mul-pos (pow-pos e) (pow-pos e)) in
+    let b : (4 * t + 4) * p ≤ sq ((2 * suc v + 1) * u) * p = mul-le-mul-right p hi in
+    around n e u k v K (omega (arith, F)) (omega (arith, F)) l w j
+
+-- by the pattern c, which is above that of 2 ^ 52 * 2 ^ e: patterns count by 2 ^ e at first, then by twice that
+module _ (n c e t : ℕ) (F : Floor n (sq (2 ^ e)) t) where
+  pub near-one : (e + 1) * 2 ^ 52 < c → c - (e + 1) * 2 ^ 52 < 2 ^ 52 → e ≤ 2000
+      → sq (c - (e + 1) * 2 ^ 52 + 2 ^ 52) < t + (c - (e + 1) * 2 ^ 52 + 4503599627370495) → t < sq (c - (e + 1) * 2 ^ 52 + 2 ^ 52) + (c - (e + 1) * 2 ^ 52 + 4503599627370495)
+      → ofBits binary64 c ≡ rootUnits n
+  near-one l s j a b = go (c - (e + 1) * 2 ^ 52) refl a b
+    where
+      go : (x : ℕ) → c - (e + 1) * 2 ^ 52 ≡ x → sq (x + 2 ^ 52) < t + (x + 4503599627370495) → t < sq (x + 2 ^ 52) + (x + 4503599627370495) → ofBits binary64 c ≡ rootUnits n
+      go x h a b =
+          ap (λ (y : ℕ). ofBits binary64 y) (let g : c ≡ e * 2 ^ 52 + suc (x + 4503599627370495) = omega arith in g)
+          ∙ near-around n e 1 e (x + 4503599627370495) t (omega arith) (omega arith) (omega arith) F (omega arith) (omega arith) (omega arith)
+
+  pub near-two : (c - (e + 1) * 2 ^ 52 ≡ 2 ^ 52 → ⊥) → 2 ^ 52 ≤ c - (e + 1) * 2 ^ 52 → c - (e + 1) * 2 ^ 52 < 2 ^ 53 → e ≤ 2000
+      → sq (2 * (c - (e + 1) * 2 ^ 52)) < t + (4 * (c - (e + 1) * 2 ^ 52) - 1) → t < sq (2 * (c - (e + 1) * 2 ^ 52)) + (4 * (c - (e + 1) * 2 ^ 52) - 1)
+      → ofBits binary64 c ≡ rootUnits n
+  near-two d l s j a b = go (c - (e + 1) * 2 ^ 52 - 1) (let g : suc (c - (e + 1) * 2 ^ 52 - 1) ≡ c - (e + 1) * 2 ^ 52 = omega arith in g) a b
+    where
+      go : (x : ℕ) → suc x ≡ c - (e + 1) * 2 ^ 52 → sq (2 * (c - (e + 1) * 2 ^ 52)) < t + (4 * (c - (e + 1) * 2 ^ 52) - 1) → t < sq (2 * (c - (e + 1) * 2 ^ 52)) + (4 * (c - (e + 1) * 2 ^ 52) - 1) → ofBits binary64 c ≡ rootUnits n
+      go x h a b =
+          let a′ : sq (2 * suc x) < t + (4 * suc x - 1) = subst (λ (y : ℕ). sq (2 * y) < t + (4 * y - 1)) (sym h) a in
+          let b′ : t < sq (2 * suc x) + (4 * suc x - 1) = subst (λ (y : ℕ). t < sq (2 * y) + (4 * y - 1)) (sym h) b in
+          ap (λ (y : ℕ). ofBits binary64 y) (let g : c ≡ (e + 1) * 2 ^ 52 + suc x = omega arith in g)
+          ∙ near-around n e 2 (e + 1) x t (pow-add 2 e 1) (omega (arith, a′)) (omega (arith, b′)) F (omega arith) (omega arith) (omega arith)

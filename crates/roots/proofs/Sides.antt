@@ -9,9 +9,9 @@ use lib.Ieee.{binary64, ofBits}
 use Rattle.laws.proofs.Comparing.{product-lt}
 use Rattle.laws.proofs.Patterns.{Held, amount, PartsOf, parted-at, amount-at, expo-le, expo-mono}
 use Rattle.roots.specs.Root.{sq, rootUnits}
-use Rattle.roots.specs.Inner.{Between}
+use Rattle.roots.specs.Inner.{Between, Floor}
 use Rattle.roots.proofs.Squares.{sq-lt-back}
-use Rattle.roots.proofs.Rounding.{to-lower}
+use Rattle.roots.proofs.Rounding.{gap, to-lower}
 
 -- ---- the sum of the squares, from the larger exponent's scale
 
@@ -22,9 +22,6 @@ scaled {n} {p} {q} c h B = record {
   exact = λ z. sym (mul-assoc (sq q) p c) ∙ ap (λ (x : ℕ). x * c) (B .exact z);
   above = λ z. subst (λ (x : ℕ). x < n * c) (mul-assoc (sq q) p c) (mul-lt-mul-of-pos-right (B .above z) h);
 }
-
-gap : (n p q : ℕ) → sq q * p ≤ n → n < sq (suc q) * p → Between n p q (n - sq q * p)
-gap n p q l h = record { low = l; high = h; exact = λ z. omega arith; above = λ z. omega arith }
 
 module _ (m e n d : ℕ) (o : d ≤ e) where
   -- (2 ^ e) ^ 2 by the difference of the exponents
@@ -43,6 +40,17 @@ module _ (m e n d : ℕ) (o : d ≤ e) where
   near-between q more B =
       subst (λ (x : ℕ). Between x (sq (2 ^ e)) q more) four-times
       (subst (λ (p : ℕ). Between ((sq (2 * m) * 2 ^ ((e - d) * 2) + sq (2 * n)) * sq (2 ^ d)) p q more) apart (scaled (sq (2 ^ d)) (mul-pos (pow-pos d) (pow-pos d)) B))
+
+  -- the sum of the squares by whole squares of the larger exponent's scale
+  pub near-floor : (t off : ℕ) → t * 2 ^ ((e - d) * 2) + off ≡ sq m * 2 ^ ((e - d) * 2) + sq n → off < 2 ^ ((e - d) * 2) → Floor (sq (m * 2 ^ e) + sq (n * 2 ^ d)) (sq (2 ^ e)) t
+  near-floor t off E L =
+      let c = sq (2 ^ d) in
+      let p = 2 ^ ((e - d) * 2) in
+      let a : (sq m + t) * (p * c) ≡ (sq m + t) * sq (2 ^ e) = ap (λ (x : ℕ). (sq m + t) * x) apart in
+      let b : sq m * (p * c) ≡ sq m * sq (2 ^ e) = ap (λ (x : ℕ). sq m * x) apart in
+      let f : (t * p + off) * c ≡ (sq m * p + sq n) * c = ap (λ (x : ℕ). x * c) E in
+      let g : off * c < p * c = mul-lt-mul-of-pos-right L (mul-pos (pow-pos d) (pow-pos d)) in
+      (omega (arith, apart), omega (arith, apart))
 
   -- the root is no less than the larger side
   pub near-held : (q more : ℕ) → Between (sq (2 * m) * 2 ^ ((e - d) * 2) + sq (2 * n)) (2 ^ ((e - d) * 2)) q more → Held m e → (2 ^ 53 ≤ q) ⊎ (e ≡ 0)

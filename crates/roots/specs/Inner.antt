@@ -26,3 +26,7 @@ IsLeast a b r = ((a ≤ b) × (r ≡ a)) ⊎ ((b < a) × (r ≡ b))
 
 abbrev pub IsGreatest : ℕ → ℕ → ℕ → Type 0
 IsGreatest a b r = ((a ≤ b) × (r ≡ b)) ⊎ ((b < a) × (r ≡ a))
+
+-- n is t times p, and less than one p more
+abbrev pub Floor : ℕ → ℕ → ℕ → Type 0
+Floor n p t = (t * p ≤ n) × (n < suc t * p)

@@ -2,7 +2,7 @@
 ghost use Prim.Native.Nat.{_+_, _*_, _^_, _≤_, _<_, suc};
 ghost use Rattle.roots.specs.Root.{sq};
 ghost use Rattle.roots.specs.Inner.{RootPair, Between};
-use crate::wide::cut_off;
+use crate::wide::joined;
 use crate::wide::square;
 
 // A whole root and what is left: n = root * root + rem.
@@ -117,16 +117,10 @@ pub(crate) fn near_root(a: u64, b: u64, d: u64) -> Near
     requires { ⌜ (a < 2 ^ 54) × (b < 2 ^ 54) × (d ≤ 26) ⌝ }
     ensures { λ r. ⌜ (r .root < 2 ^ 55) × Between (sq a * 2 ^ (d * 2) + sq b) (2 ^ (d * 2)) (r .root) (r .more) ⌝ }
 {
-    let x = square(a);
-    let y = square(b);
-    let z = cut_off(y.hi, y.lo, d * 2);
-    let low = x.lo + z.lo;
-    let r = wide_root(
-        x.hi + z.hi + low / 18014398509481984,
-        low % 18014398509481984,
-    );
+    let t = joined(a, b, d);
+    let r = wide_root(t.hi, t.lo);
     Near {
         root: r.root,
-        more: r.rem + z.off,
+        more: r.rem + t.off,
     }
 }

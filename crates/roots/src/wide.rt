@@ -45,3 +45,19 @@ pub(crate) fn cut_off(hi: u64, lo: u64, s: u64) -> Cut
         off: lo - (low << s),
     }
 }
+
+// The sum of the squares of a * 2 ^ d and b, less its last 2 d digits, which are cut off.
+pub(crate) fn joined(a: u64, b: u64, d: u64) -> Cut
+    requires { ⌜ (a < 2 ^ 54) × (b < 2 ^ 54) × (d ≤ 26) ⌝ }
+    ensures { λ r. ⌜ ((r .hi * 2 ^ 54 + r .lo) * 2 ^ (d * 2) + r .off ≡ sq a * 2 ^ (d * 2) + sq b) × (r .hi < 2 ^ 55) × (r .lo < 2 ^ 54) × (r .off < 2 ^ (d * 2)) ⌝ }
+{
+    let x = square(a);
+    let y = square(b);
+    let z = cut_off(y.hi, y.lo, d * 2);
+    let low = x.lo + z.lo;
+    Cut {
+        hi: x.hi + z.hi + low / 18014398509481984,
+        lo: low % 18014398509481984,
+        off: z.off,
+    }
+}
