@@ -6,12 +6,12 @@ use mathlib.Core.List.{List}
 use Prim.Native.Nat.{ℕ, zero, suc, _+_, _-_, _<_, _≤_}
 use native.Mathlib.Nat.{eq-or-lt-of-le}
 use native.Mathlib.Omega.{arith}
-use lib.ListN.{length, set, replicate, length-set, length-replicate}
+use lib.ListN.{length, set, length-set}
 use lib.Seq.{getD-set-same, getD-set-other}
 use lib.Ieee.{Float, nan}
 use borrow.Author.Tests.{le-leb, eq-eqb}
 use Rattle.laws.specs.Loop.{turns}
-use Rattle.laws.specs.Floats.{_+f_, _*f_, +0, at, finite}
+use Rattle.laws.specs.Floats.{_+f_, _*f_, at, finite}
 use Rattle.laws.proofs.Choices.{cond-ind}
 use Rattle.laws.proofs.Loops.{for-keeps, for-same}
 use Rattle.solver.specs.declared.Solved.{Solved}
@@ -23,7 +23,7 @@ use Rattle.cell.specs.declared.Tried.{Tried}
 use Rattle.cell.specs.Faces.{faceAt}
 use Rattle.cell.specs.Next.{Good, Ordered, nextOf}
 use Rattle.cell.specs.Polytope.{rowsOf, boundsOf, spreadOf, feasibleOf}
-use Rattle.cell.specs.Least.{addedTo, normalOf, baseOf, rightOf, restOf, objectiveOf, filled}
+use Rattle.cell.specs.Least.{addedTo, normalOf, baseOf, rightOf, restOf, objectiveOf, filledOn}
 use Rattle.cell.specs.Cell.{Problem, problem, solutionOf, widened, noTry, valuedOf, metOf, triedOf, tryOf, wins, pickOf, bestOf, chosenOf, problemOf, posedOf, fitModel, cellOf, innerOf}
 
 -- ---- the rows of the observations, computed once
@@ -43,9 +43,9 @@ module _ (v : ℕ → Float) where
       (λ h. laid k (j + 1) i (set t j (v j)) (omega arith) (omega arith) (omega (arith, length-set t j (v j))))
       (eq-or-lt-of-le l)
 
-  pub filled-at : (n i : ℕ) → n ≤ 256 → i < n → at (filled n v) i ≡ v i
-  unfolding filled
-  filled-at n i s l = laid (n - 0) 0 i (replicate 256 +0) (omega arith) (omega arith) (omega (arith, length-replicate 256 +0))
+  pub filled-at : (n i : ℕ) (before : List Float) → n ≤ length before → i < n → at (filledOn n v before) i ≡ v i
+  unfolding filledOn
+  filled-at n i before s l = laid (n - 0) 0 i before (omega arith) (omega arith) (omega arith)
 
 -- a cell asks of y and h only at the observations
 module _ (y z h g : ℕ → Float) (ws ts : List Float) (ys : (i : ℕ) → i < length ws → y i ≡ z i) (hs : (i : ℕ) → i < length ws → h i ≡ g i) where

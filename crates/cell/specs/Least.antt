@@ -58,6 +58,6 @@ objectiveOf y h ws ts x =
 abbrev pub objectiveAt : List Float → List Float → List Float → List Float → List Float → Float
 objectiveAt ys hs ws ts = objectiveOf (at ys) (at hs) ws ts
 
--- v i in each place i below n of 256: rows that are worked out once
-unfoldable pub filled : ℕ → (ℕ → Float) → List Float
-filled n v = for 0 n (λ i t. set t i (v i)) (replicate 256 +0)
+-- v i in each place i below n, the others as they were: rows that are worked out once
+unfoldable pub filledOn : ℕ → (ℕ → Float) → List Float → List Float
+filledOn n v before = for 0 n (λ i t. set t i (v i)) before

@@ -3,32 +3,28 @@ ghost use mathlib.Core.Path.{_≡_};
 ghost use Prim.Native.Nat.{_≤_};
 ghost use lib.ListN.{length};
 ghost use Rattle.laws.specs.Floats.{at};
-ghost use Rattle.cell.specs.Least.{filled, yOf, hOf, lineOf, addedTo, normalOf, baseOf, rightOf, objectiveOf};
+ghost use Rattle.cell.specs.Least.{filledOn, yOf, hOf, lineOf, addedTo, normalOf, baseOf, rightOf, objectiveOf};
 use crate::Line;
 use crate::Normal;
 
-// (k - m) / sigma of each observation.
-pub(crate) fn ys_of(ks: &[f64], m: f64, sigma: f64) -> [f64; 256]
+// (k - m) / sigma of each observation, where it is to stand.
+pub(crate) fn fill_ys(ks: &[f64], m: f64, sigma: f64, ys: &mut [f64; 256])
     requires { ⌜ length (now ks) ≤ 256 ⌝ }
-    ensures { λ r. ⌜ r ≡ filled (length (now (ks .entry))) (yOf (now (ks .entry)) m sigma) ⌝ }
+    ensures { λ r. ⌜ now (ys .exit) ≡ filledOn (length (now (ks .entry))) (yOf (now (ks .entry)) m sigma) (now (ys .entry)) ⌝ }
 {
-    let mut t = [0.0; 256];
     for i in 0..ks.len() {
-        t[i] = (ks[i] - m) / sigma;
+        ys[i] = (ks[i] - m) / sigma;
     }
-    t
 }
 
 // Its hypotenuse with 1.
-pub(crate) fn hs_of(ys: &[f64; 256], n: usize) -> [f64; 256]
+pub(crate) fn fill_hs(ys: &[f64; 256], n: usize, hs: &mut [f64; 256])
     requires { ⌜ n ≤ 256 ⌝ }
-    ensures { λ r. ⌜ r ≡ filled n (λ i. hOf (at (now (ys .entry)) i)) ⌝ }
+    ensures { λ r. ⌜ now (hs .exit) ≡ filledOn n (λ i. hOf (at (now (ys .entry)) i)) (now (hs .entry)) ⌝ }
 {
-    let mut t = [0.0; 256];
     for i in 0..n {
-        t[i] = roots::hypot(ys[i], 1.0);
+        hs[i] = roots::hypot(ys[i], 1.0);
     }
-    t
 }
 
 fn line_plus(l: Line, s: f64, y: f64, h: f64, w: f64) -> Line

@@ -199,8 +199,10 @@ fn cell_at(k: Model, ks: &[f64], ws: &[f64], ts: &[f64], l: Limits, m: f64, sigm
     requires { ⌜ Ordered (k .u) (k .n) (k .faces) × (length (now ks) ≤ 256) × (length (now ws) ≡ length (now ks)) × (length (now ts) ≡ length (now ks)) ⌝ }
     ensures { λ r. ⌜ r ≡ cellOf k (now (ks .entry)) (now (ws .entry)) (now (ts .entry)) l m sigma ⌝ }
 {
-    let ys = least::ys_of(ks, m, sigma);
-    let hs = least::hs_of(&ys, ks.len());
+    let mut ys = [0.0; 256];
+    let mut hs = [0.0; 256];
+    least::fill_ys(ks, m, sigma, &mut ys);
+    least::fill_hs(&ys, ks.len(), &mut hs);
     posed(k, &ys, &hs, ws, ts, l, sigma)
 }
 

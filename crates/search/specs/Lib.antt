@@ -2,3 +2,4 @@ pub mod Axis
 pub mod Search
 pub mod Run
 pub mod Roomy
+pub mod Sigmas

@@ -2,20 +2,26 @@
 ghost use mathlib.Core.Path.{_≡_};
 ghost use mathlib.Core.Bool.{cond};
 ghost use Prim.Native.Nat.{_^_, _≤_, _<_};
+ghost use Rattle.cell.specs.Least.{filledOn};
 ghost use Rattle.cell.specs.Cell.{noCell};
 ghost use Rattle.search.specs.Search.{better, consider, rowOf, passOf};
 ghost use Rattle.search.specs.Run.{fitCell};
+ghost use Rattle.search.specs.Sigmas.{sigmaAt, sigmasOf};
+use crate::Axis;
 use crate::PassBest;
 use crate::Window;
 use crate::points;
 use cell::Cell;
 use cell::Limits;
 
-// The cell at (m, ln sigma).
-fn cell_at(ks: &[f64], ws: &[f64], ts: &[f64], l: Limits, m: f64, ls: f64) -> Cell
-    ensures { λ r. ⌜ r ≡ fitCell (now (ks .entry)) (now (ws .entry)) (now (ts .entry)) l m ls ⌝ }
+// sigma at each point of the axis of ln sigma, once for all rows.
+fn fill_sigmas(a: Axis, n: usize, sigmas: &mut [f64; 256])
+    requires { ⌜ n ≤ 255 ⌝ }
+    ensures { λ r. ⌜ now (sigmas .exit) ≡ filledOn n (sigmaAt a n) (now (sigmas .entry)) ⌝ }
 {
-    cell::inner(ks, ws, ts, l, m, exponent::exp(ls))
+    for j in 0..n {
+        sigmas[j] = exponent::exp(points::linspace_at(a.lo, a.hi, n, j));
+    }
 }
 
 fn pick_cell(c: bool, a: Cell, b: Cell) -> Cell
@@ -54,17 +60,17 @@ fn row(
     l: Limits,
     w: Window,
     n: usize,
+    sigmas: &[f64; 256],
     i: usize,
     b: PassBest,
 ) -> PassBest
-    requires { ⌜ (n ≤ 255) × (b .cells < 2 ^ 50) × (b .faces < 2 ^ 50) ⌝ }
+    requires { ⌜ (n ≤ 255) × (b .cells < 2 ^ 50) × (b .faces < 2 ^ 50) × (now sigmas ≡ sigmasOf (w .s) n) ⌝ }
     ensures { λ r. ⌜ r ≡ rowOf (fitCell (now (ks .entry)) (now (ws .entry)) (now (ts .entry)) l) w n i b ⌝ }
 {
     let m = points::linspace_at(w.m.lo, w.m.hi, n, i);
     let mut best = b;
     for j in 0..n {
-        let ls = points::linspace_at(w.s.lo, w.s.hi, n, j);
-        let c = cell_at(ks, ws, ts, l, m, ls);
+        let c = cell::inner(ks, ws, ts, l, m, sigmas[j]);
         best = considered(best, c, i, j);
     }
     best
@@ -95,8 +101,10 @@ pub(crate) fn pass(ks: &[f64], ws: &[f64], ts: &[f64], l: Limits, w: Window, n: 
         cells: 0,
         faces: 0,
     };
+    let mut sigmas = [0.0; 256];
+    fill_sigmas(w.s, n, &mut sigmas);
     for i in 0..n {
-        best = row(ks, ws, ts, l, w, n, i, best);
+        best = row(ks, ws, ts, l, w, n, &sigmas, i, best);
     }
     best
 }

@@ -7,6 +7,7 @@ use Rattle.laws.specs.Loop.{for}
 use Rattle.search.specs.declared.PassBest.{PassBest}
 use Rattle.search.specs.Search.{noBest, rowOf, passOf}
 use Rattle.search.specs.Run.{fitCell}
+use Rattle.search.specs.Sigmas.{sigmasOf}
 use Rattle.search.proofs.Sums.{sum, sum-most}
 use Rattle.search.proofs.Passes.{CountsTo, facesAt, rows-counts}
 use Rattle.search.proofs.SearchCounts.{grid-cells}
@@ -18,29 +19,32 @@ use Rattle.search.proofs.grid.pass.Statement.{statement}
 use Rattle.search.proofs.grid.pass.Tie as tie
 
 abbrev Inv-loop : tie.InvT-loop
-Inv-loop ks ws ts l w n best₀ i₀ best i = (i ≤ n) × (best ≡ for 0 i (λ i b. rowOf (fitCell ks ws ts l) w n i b) noBest)
+Inv-loop ks ws ts l w n best₀ sigmas i₀ best i = (i ≤ n) × (best ≡ for 0 i (λ i b. rowOf (fitCell ks ws ts l) w n i b) noBest)
 
 abbrev μ-loop : tie.MeasureT-loop
-μ-loop ks ws ts l w n best₀ i₀ best i = n - i
+μ-loop ks ws ts l w n best₀ sigmas i₀ best i = n - i
 
 loop-holds : tie.Need-loop-holds Inv-loop μ-loop
 loop-holds c =
     let f : Cell → PassBest = λ x. record { cell = x; i = 0; j = 0; cells = 0; faces = 0 } in
-    (search needs, ap f (c .no-cell .ensures) ∙ none-yet _ noBest)
+    (search needs, ap f (c .before .before .no-cell .ensures) ∙ none-yet _ noBest)
 
 row-requires : tie.Need-row-requires Inv-loop μ-loop
+unfolding sigmasOf
 row-requires c κs =
-    let l = c .before .loop in
-    let a = c .before .before .before .before .before .before .args in
+    let l = c .before .before .loop in
+    let z = c .before .before .before .fill-sigmas in
+    let s = c .before .before .before .before .before .before .before .before .before in
+    let a = s .args in
     let f = fitCell (a .ks .now) (a .ws .now) (a .ts .now) (a .l) in
     let k : CountsTo f (a .w) (a .n) (l .best) (l .i * a .n) (sum (l .i) (λ i. sum (a .n) (facesAt f (a .w) (a .n) i))) = rw (l .inv .1) (rows-counts f (a .w) (a .n) (l .i)) in
     let m = sum-most (l .i) (a .n * 64) (λ i. sum (a .n) (facesAt f (a .w) (a .n) i)) (λ i h. sum-most (a .n) 64 (facesAt f (a .w) (a .n) i) (λ j h. fit-most (a .ks .now) (a .ws .now) (a .ts .now) (a .l) _ _)) in
-    let z = grid-cells (l .i) (a .n) (l .inv .0) (c .before .before .before .before .before .before .pre) in
+    let g = grid-cells (l .i) (a .n) (l .inv .0) (s .pre) in
     let y : l .i * (a .n * 64) ≡ l .i * a .n * 64 = sym (mul-assoc (l .i) (a .n) 64) in
-    (c .before .before .before .before .before .before .pre, omega (arith, k .cells, z), omega (arith, k .faces, m, z, y))
+    (s .pre, omega (arith, k .cells, g), omega (arith, k .faces, m, g, y), z .ensures)
 
 loop-again : tie.Need-loop-again Inv-loop μ-loop
-loop-again c = (omega arith, one-more _ _ (c .before .before .loop .i) (c .before .before .loop .inv .1) (c .row .ensures))
+loop-again c = (omega arith, one-more _ _ (c .before .before .before .loop .i) (c .before .before .before .loop .inv .1) (c .row .ensures))
 
 returns : tie.Need-returns Inv-loop μ-loop
 unfolding passOf
@@ -52,6 +56,7 @@ pass-spec =
     (tie.spec
     Inv-loop
     μ-loop
+    (λ c κs. search needs)
     (λ c κs. search needs)
     loop-holds
     row-requires

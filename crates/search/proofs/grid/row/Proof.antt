@@ -1,23 +1,46 @@
 -- `search::grid::row` meets its contract. Assumes nothing.
-use mathlib.Core.Path.{_≡_}
-use Prim.Native.Nat.{_+_, _-_, _≤_}
+use mathlib.Core.Path.{_≡_, ap, ap₂, _∙_}
+use mathlib.Core.List.{List}
+use Prim.Native.Nat.{ℕ, _+_, _-_, _≤_, _<_}
+use lib.ListN.{length, replicate, length-replicate}
+use lib.Ieee.{Float}
+use Rattle.laws.specs.Floats.{at, +0}
+use Rattle.cell.specs.declared.Cell.{Cell}
+use Rattle.cell.specs.declared.Limits.{Limits}
+use Rattle.cell.specs.Cell.{innerOf}
+use Rattle.cell.proofs.Laws.{filled-at}
+use Rattle.search.specs.declared.Window.{Window}
+use Rattle.search.specs.declared.PassBest.{PassBest}
+use Rattle.search.specs.Sigmas.{sigmaAt, sigmasOf}
 use Rattle.laws.specs.Loop.{for}
-use Rattle.search.specs.Search.{consider, cellAt, rowOf}
+use Rattle.search.specs.Search.{pointAt, consider, cellAt, rowOf}
 use Rattle.search.specs.Run.{fitCell}
 use Rattle.search.proofs.Sums.{sum, sum-most}
 use Rattle.search.proofs.Passes.{CountsTo, facesAt, row-counts}
 use Rattle.search.proofs.NoBetterFace.{fit-most}
-use Rattle.laws.proofs.Loops.{none-yet, one-more, all-done}
+use Rattle.laws.proofs.Loops.{none-yet, one-more, all-done, for-same}
 use borrow.Author.Needs.{needs}
 use native.Mathlib.Omega.{arith}
 use Rattle.search.proofs.grid.row.Statement.{statement}
 use Rattle.search.proofs.grid.row.Tie as tie
 
+module _ (t : List Float) (w : Window) (n i : ℕ) (ks ws ts : List Float) (l : Limits) (m : Float) (r : n ≤ 255) (et : t ≡ sigmasOf (w .s) n) (em : m ≡ pointAt (w .m) n i) where
+  -- a cell at the sigma of point j is the fit's cell at that point
+  same-cell : (j : ℕ) → j < n → innerOf ks ws ts l m (at t j) ≡ cellAt (fitCell ks ws ts l) w n i j
+  unfolding sigmasOf sigmaAt fitCell
+  same-cell j h =
+      let z : n ≤ length (replicate 256 +0) = omega (arith, r, length-replicate 256 +0) in
+      ap₂ (innerOf ks ws ts l) em (ap (λ (t : List Float). at t j) et ∙ filled-at (sigmaAt (w .s) n) n j (replicate 256 +0) z h)
+
+  -- and so is a row of them
+  same-row : (k : ℕ) (b : PassBest) → k ≤ n → for 0 k (λ j b. consider b (innerOf ks ws ts l m (at t j)) i j) b ≡ for 0 k (λ j b. consider b (cellAt (fitCell ks ws ts l) w n i j) i j) b
+  same-row k b h = for-same _ _ k (λ j g s. ap (λ (c : Cell). consider s c i j) (same-cell j (omega arith))) b
+
 abbrev Inv-loop : tie.InvT-loop
-Inv-loop ks ws ts l w n i m best₀ j₀ best j = (j ≤ n) × (best ≡ for 0 j (λ j b. consider b (cellAt (fitCell ks ws ts l) w n i j) i j) best₀)
+Inv-loop ks ws ts l n sigmas i m best₀ j₀ best j = (j ≤ n) × (best ≡ for 0 j (λ j b. consider b (innerOf ks ws ts l m (at sigmas j)) i j) best₀)
 
 abbrev μ-loop : tie.MeasureT-loop
-μ-loop ks ws ts l w n i m best₀ j₀ best j = n - j
+μ-loop ks ws ts l n sigmas i m best₀ j₀ best j = n - j
 
 loop-holds : tie.Need-loop-holds Inv-loop μ-loop
 loop-holds c = (search needs, none-yet _ _)
@@ -25,20 +48,32 @@ loop-holds c = (search needs, none-yet _ _)
 considered-requires : tie.Need-considered-requires Inv-loop μ-loop
 considered-requires c κs =
     let l = c .before .before .before .loop in
-    let a = c .before .before .before .before .before .before .before .before .args in
+    let p = c .before .before .before .before in
+    let s = p .before .before .before .before in
+    let a = s .args in
     let f = fitCell (a .ks .now) (a .ws .now) (a .ts .now) (a .l) in
     let k = row-counts f (a .w) (a .n) (a .i) (a .b) (l .j) in
     let m = sum-most (l .j) 64 (facesAt f (a .w) (a .n) (a .i)) (λ j h. fit-most (a .ks .now) (a .ws .now) (a .ts .now) (a .l) _ _) in
-    let t : c .cell-at .result .faces ≤ 64 = rw (c .cell-at .ensures) (fit-most (a .ks .now) (a .ws .now) (a .ts .now) (a .l) _ _) in
-    let e : CountsTo f (a .w) (a .n) (l .best) (a .b .cells + l .j) (a .b .faces + sum (l .j) (facesAt f (a .w) (a .n) (a .i))) = rw (l .inv .1) k in
-    omega (arith, c .before .before .before .before .before .before .before .before .pre, e .cells, e .faces, m, t, l .inv .0)
+    let t : c .inner .result .faces ≤ 64 =
+    rw (c .inner .ensures, same-cell (a .sigmas .now) (a .w) (a .n) (a .i) (a .ks .now) (a .ws .now) (a .ts .now) (a .l) _ (s .pre .0) (s .pre .3) (p .linspace-at .ensures) (l .j) (c .before .before .loop-test .taken))
+    (fit-most (a .ks .now) (a .ws .now) (a .ts .now) (a .l) _ _) in
+    let e : CountsTo f (a .w) (a .n) (l .best) (a .b .cells + l .j) (a .b .faces + sum (l .j) (facesAt f (a .w) (a .n) (a .i))) =
+    rw (l .inv .1, same-row (a .sigmas .now) (a .w) (a .n) (a .i) (a .ks .now) (a .ws .now) (a .ts .now) (a .l) _ (s .pre .0) (s .pre .3) (p .linspace-at .ensures) (l .j) (a .b) (l .inv .0)) k in
+    omega (arith, s .pre .0, s .pre .1, s .pre .2, e .cells, e .faces, m, t, l .inv .0)
 
 loop-again : tie.Need-loop-again Inv-loop μ-loop
-loop-again c = (omega arith, one-more _ _ (c .before .before .before .before .loop .j) (c .before .before .before .before .loop .inv .1) (cc))
+loop-again c =
+    let l = c .before .before .before .before .loop in
+    (omega arith, one-more _ _ (l .j) (l .inv .1) (cc))
 
 returns : tie.Need-returns Inv-loop μ-loop
 unfolding rowOf
-returns c = all-done _ _ (omega arith) (c .before .loop .inv .1)
+returns c =
+    let l = c .before .loop in
+    let p = c .before .before in
+    let s = p .before .before .before .before in
+    let a = s .args in
+    all-done _ _ (omega arith) (l .inv .1 ∙ same-row (a .sigmas .now) (a .w) (a .n) (a .i) (a .ks .now) (a .ws .now) (a .ts .now) (a .l) _ (s .pre .0) (s .pre .3) (p .linspace-at .ensures) (l .j) (a .b) (l .inv .0))
 
 pub row-spec : {M : Type 1} → statement M
 row-spec =
@@ -48,7 +83,8 @@ row-spec =
     μ-loop
     (λ c κs. search needs)
     loop-holds
-    (λ c κs. search needs)
+    (λ c. omega arith)
+    (λ c. omega arith)
     (λ c κs. search needs)
     considered-requires
     (λ c. omega arith)

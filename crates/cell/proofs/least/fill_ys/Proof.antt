@@ -1,22 +1,22 @@
--- `cell::least::ys_of` meets its contract. Assumes nothing.
+-- `cell::least::fill_ys` meets its contract. Assumes nothing.
 use mathlib.Core.Path.{_≡_, refl}
 use Prim.Native.Nat.{_-_}
 use native.Mathlib.Omega.{arith}
 use lib.ListN.{set, length}
 use Rattle.laws.specs.Loop.{for}
 use Rattle.laws.proofs.Loops.{again, ended}
-use Rattle.cell.specs.Least.{yOf, filled}
-use Rattle.cell.proofs.least.ys_of.Statement.{statement}
-use Rattle.cell.proofs.least.ys_of.Tie as tie
+use Rattle.cell.specs.Least.{yOf, filledOn}
+use Rattle.cell.proofs.least.fill_ys.Statement.{statement}
+use Rattle.cell.proofs.least.fill_ys.Tie as tie
 
 abbrev Inv-loop : tie.InvT-loop
-Inv-loop ks m sigma t₀ i₀ i-end t i = for i (length ks) (λ i t. set t i (yOf ks m sigma i)) t ≡ filled (length ks) (yOf ks m sigma)
+Inv-loop ks m sigma ys₀ i₀ i-end ys i = for i (length ks) (λ i t. set t i (yOf ks m sigma i)) ys ≡ filledOn (length ks) (yOf ks m sigma) ys₀
 
 abbrev μ-loop : tie.MeasureT-loop
-μ-loop ks m sigma t₀ i₀ i-end t i = length ks - i
+μ-loop ks m sigma ys₀ i₀ i-end ys i = length ks - i
 
 loop-holds : tie.Need-loop-holds Inv-loop μ-loop
-unfolding filled
+unfolding filledOn
 loop-holds c = refl
 
 loop-again : tie.Need-loop-again Inv-loop μ-loop
@@ -26,8 +26,8 @@ loop-again c = again _ _ _ (c .before .loop-test .taken) (refl) (c .before .befo
 returns : tie.Need-returns Inv-loop μ-loop
 returns c = ended _ _ _ (c .loop-test .left) (c .before .loop .inv)
 
-pub ys-of-spec : {M : Type 1} → statement M
-ys-of-spec =
+pub fill-ys-spec : {M : Type 1} → statement M
+fill-ys-spec =
     tie.close
     (tie.spec
     Inv-loop
