@@ -23,29 +23,16 @@ use Rattle.cell.specs.declared.Tried.{Tried}
 use Rattle.cell.specs.Faces.{faceAt}
 use Rattle.cell.specs.Next.{Good, Ordered, nextOf}
 use Rattle.cell.specs.Polytope.{rowsOf, boundsOf, spreadOf, feasibleOf}
-use Rattle.cell.specs.Least.{addedTo, normalOf, baseOf, rightOf, restOf, objectiveOf, filledOn}
+use Rattle.laws.specs.Room.{filledOn}
+use Rattle.roots.specs.Hypot.{withOneOf}
+use Rattle.cell.specs.Least.{hOf, addedTo, normalOf, baseOf, rightOf, restOf, objectiveOf}
 use Rattle.cell.specs.Cell.{Problem, problem, solutionOf, widened, noTry, valuedOf, metOf, triedOf, tryOf, wins, pickOf, bestOf, chosenOf, problemOf, posedOf, fitModel, cellOf, innerOf}
 
 -- ---- the rows of the observations, computed once
 
-module _ (v : ℕ → Float) where
-  kept : (k j i : ℕ) (t : List Float) → i < j → at (turns (λ i t. set t i (v i)) k j t) i ≡ at t i
-  unfolding turns
-  kept zero j i t l = refl
-  kept (suc k) j i t l = kept k (j + 1) i (set t j (v j)) (omega arith) ∙ getD-set-other t j i (v j) nan (λ e. omega arith)
-
-  laid : (k j i : ℕ) (t : List Float) → j ≤ i → i < j + k → j + k ≤ length t → at (turns (λ i t. set t i (v i)) k j t) i ≡ v i
-  unfolding turns
-  laid zero j i t l m r = absurd (omega arith)
-  laid (suc k) j i t l m r =
-      ⊎-elim
-      (λ (e : j ≡ i). kept k (j + 1) i (set t j (v j)) (omega arith) ∙ subst (λ (i : ℕ). at (set t j (v j)) i ≡ v i) e (getD-set-same t j (v j) nan (omega arith)))
-      (λ h. laid k (j + 1) i (set t j (v j)) (omega arith) (omega arith) (omega (arith, length-set t j (v j))))
-      (eq-or-lt-of-le l)
-
-  pub filled-at : (n i : ℕ) (before : List Float) → n ≤ length before → i < n → at (filledOn n v before) i ≡ v i
-  unfolding filledOn
-  filled-at n i before s l = laid (n - 0) 0 i before (omega arith) (omega arith) (omega arith)
+pub lengths-in-range : (ys : List Float) (n : ℕ) (hs before : List Float) → n ≤ 256 → hs ≡ withOneOf ys n before → hs ≡ filledOn n (λ i. hOf (at ys i)) before
+unfolding withOneOf hOf
+lengths-in-range ys n hs before l e = rw (le-leb n 256 l) at e
 
 -- a cell asks of y and h only at the observations
 module _ (y z h g : ℕ → Float) (ws ts : List Float) (ys : (i : ℕ) → i < length ws → y i ≡ z i) (hs : (i : ℕ) → i < length ws → h i ≡ g i) where

@@ -2,7 +2,7 @@
 -- The rows (1, y, h) of the observations are functions of the index; k, w and the weight t are lists.
 use mathlib.Core.List.{List, [], _∷_}
 use Prim.Native.Nat.{ℕ}
-use lib.ListN.{length, set, replicate}
+use lib.ListN.{length, replicate}
 use lib.Ieee.{Float}
 use Rattle.laws.specs.Loop.{for}
 use Rattle.laws.specs.Floats.{_+f_, _-f_, _*f_, _/f_, +0, one, two, at}
@@ -57,7 +57,3 @@ objectiveOf y h ws ts x =
 -- the same with the rows read from two lists
 abbrev pub objectiveAt : List Float → List Float → List Float → List Float → List Float → Float
 objectiveAt ys hs ws ts = objectiveOf (at ys) (at hs) ws ts
-
--- v i in each place i below n, the others as they were: rows that are worked out once
-unfoldable pub filledOn : ℕ → (ℕ → Float) → List Float → List Float
-filledOn n v before = for 0 n (λ i t. set t i (v i)) before

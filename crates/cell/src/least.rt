@@ -3,7 +3,8 @@ ghost use mathlib.Core.Path.{_≡_};
 ghost use Prim.Native.Nat.{_≤_};
 ghost use lib.ListN.{length};
 ghost use Rattle.laws.specs.Floats.{at};
-ghost use Rattle.cell.specs.Least.{filledOn, yOf, hOf, lineOf, addedTo, normalOf, baseOf, rightOf, objectiveOf};
+ghost use Rattle.laws.specs.Room.{filledOn};
+ghost use Rattle.cell.specs.Least.{yOf, lineOf, addedTo, normalOf, baseOf, rightOf, objectiveOf};
 use crate::Line;
 use crate::Normal;
 
@@ -14,16 +15,6 @@ pub(crate) fn fill_ys(ks: &[f64], m: f64, sigma: f64, ys: &mut [f64; 256])
 {
     for i in 0..ks.len() {
         ys[i] = (ks[i] - m) / sigma;
-    }
-}
-
-// Its hypotenuse with 1.
-pub(crate) fn fill_hs(ys: &[f64; 256], n: usize, hs: &mut [f64; 256])
-    requires { ⌜ n ≤ 256 ⌝ }
-    ensures { λ r. ⌜ now (hs .exit) ≡ filledOn n (λ i. hOf (at (now (ys .entry)) i)) (now (hs .entry)) ⌝ }
-{
-    for i in 0..n {
-        hs[i] = roots::hypot(ys[i], 1.0);
     }
 }
 

@@ -202,7 +202,7 @@ fn cell_at(k: Model, ks: &[f64], ws: &[f64], ts: &[f64], l: Limits, m: f64, sigm
     let mut ys = [0.0; 256];
     let mut hs = [0.0; 256];
     least::fill_ys(ks, m, sigma, &mut ys);
-    least::fill_hs(&ys, ks.len(), &mut hs);
+    roots::lengths::with_one(&ys, ks.len(), &mut hs);
     posed(k, &ys, &hs, ws, ts, l, sigma)
 }
 

@@ -5,7 +5,7 @@ use lib.ListN.{replicate}
 use lib.Ieee.{Float}
 use Rattle.laws.specs.Floats.{+0}
 use Rattle.exponent.specs.Exp.{expOf}
-use Rattle.cell.specs.Least.{filledOn}
+use Rattle.laws.specs.Room.{filledOn}
 use Rattle.search.specs.declared.Axis.{Axis}
 use Rattle.search.specs.Search.{pointAt}
 

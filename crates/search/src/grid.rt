@@ -2,7 +2,7 @@
 ghost use mathlib.Core.Path.{_≡_};
 ghost use mathlib.Core.Bool.{cond};
 ghost use Prim.Native.Nat.{_^_, _≤_, _<_};
-ghost use Rattle.cell.specs.Least.{filledOn};
+ghost use Rattle.laws.specs.Room.{filledOn};
 ghost use Rattle.cell.specs.Cell.{noCell};
 ghost use Rattle.search.specs.Search.{better, consider, rowOf, passOf};
 ghost use Rattle.search.specs.Run.{fitCell};

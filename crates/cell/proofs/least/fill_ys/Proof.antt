@@ -5,7 +5,8 @@ use native.Mathlib.Omega.{arith}
 use lib.ListN.{set, length}
 use Rattle.laws.specs.Loop.{for}
 use Rattle.laws.proofs.Loops.{again, ended}
-use Rattle.cell.specs.Least.{yOf, filledOn}
+use Rattle.laws.specs.Room.{filledOn}
+use Rattle.cell.specs.Least.{yOf}
 use Rattle.cell.proofs.least.fill_ys.Statement.{statement}
 use Rattle.cell.proofs.least.fill_ys.Tie as tie
 

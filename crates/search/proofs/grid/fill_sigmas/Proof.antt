@@ -7,7 +7,7 @@ use borrow.Author.Needs.{needs}
 use Rattle.laws.specs.Loop.{for}
 use Rattle.laws.proofs.Loops.{again, ended}
 use Rattle.exponent.specs.Exp.{expOf}
-use Rattle.cell.specs.Least.{filledOn}
+use Rattle.laws.specs.Room.{filledOn}
 use Rattle.search.specs.Sigmas.{sigmaAt}
 use Rattle.search.proofs.grid.fill_sigmas.Statement.{statement}
 use Rattle.search.proofs.grid.fill_sigmas.Tie as tie

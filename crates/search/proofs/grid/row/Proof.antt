@@ -3,12 +3,12 @@ use mathlib.Core.Path.{_≡_, ap, ap₂, _∙_}
 use mathlib.Core.List.{List}
 use Prim.Native.Nat.{ℕ, _+_, _-_, _≤_, _<_}
 use lib.ListN.{length, replicate, length-replicate}
-use lib.Ieee.{Float}
+use lib.Ieee.{Float, nan}
 use Rattle.laws.specs.Floats.{at, +0}
 use Rattle.cell.specs.declared.Cell.{Cell}
 use Rattle.cell.specs.declared.Limits.{Limits}
 use Rattle.cell.specs.Cell.{innerOf}
-use Rattle.cell.proofs.Laws.{filled-at}
+use Rattle.laws.proofs.Rooms.{filled-at}
 use Rattle.search.specs.declared.Window.{Window}
 use Rattle.search.specs.declared.PassBest.{PassBest}
 use Rattle.search.specs.Sigmas.{sigmaAt, sigmasOf}
@@ -30,7 +30,7 @@ module _ (t : List Float) (w : Window) (n i : ℕ) (ks ws ts : List Float) (l : 
   unfolding sigmasOf sigmaAt fitCell
   same-cell j h =
       let z : n ≤ length (replicate 256 +0) = omega (arith, r, length-replicate 256 +0) in
-      ap₂ (innerOf ks ws ts l) em (ap (λ (t : List Float). at t j) et ∙ filled-at (sigmaAt (w .s) n) n j (replicate 256 +0) z h)
+      ap₂ (innerOf ks ws ts l) em (ap (λ (t : List Float). at t j) et ∙ filled-at (sigmaAt (w .s) n) nan n j (replicate 256 +0) z h)
 
   -- and so is a row of them
   same-row : (k : ℕ) (b : PassBest) → k ≤ n → for 0 k (λ j b. consider b (innerOf ks ws ts l m (at t j)) i j) b ≡ for 0 k (λ j b. consider b (cellAt (fitCell ks ws ts l) w n i j) i j) b
