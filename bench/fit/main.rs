@@ -37,7 +37,9 @@ mod types;
 
 use cells::{Limits, cell, port_solve};
 use house::{House, Record, Settings};
-use plain::calibrate::{FitConfig, SliceObservation, inner, solve_linear};
+use plain::calibrate::{FitConfig, SliceObservation, inner};
+// Of another copy: a second caller in the plain one would change how its cells are compiled.
+use started::calibrate::solve_linear;
 
 #[repr(C)]
 struct Timespec {
