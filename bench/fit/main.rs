@@ -1,4 +1,4 @@
-//! Whole fits and single cells of the search, the port beside the published Rust, which uses the platform's own routines here. See bench/run.
+//! Whole fits, single cells of the search and the solver, the port beside the published Rust, which uses the platform's own routines here. See bench/run.
 
 use std::hint::black_box;
 
@@ -20,29 +20,8 @@ mod elementary {
     }
 }
 
-mod types {
-    pub mod error {
-        #[derive(Debug, Clone, PartialEq)]
-        pub enum MMError {
-            InvalidConfiguration(String),
-            InvalidMarketState(String),
-            NumericalError(String),
-        }
-
-        pub type MMResult<T> = Result<T, MMError>;
-
-        impl std::fmt::Display for MMError {
-            fn fmt(&self, f: &mut std::fmt::Formatter<'_>) -> std::fmt::Result {
-                match self {
-                    Self::InvalidConfiguration(s) => write!(f, "invalid configuration: {s}"),
-                    Self::InvalidMarketState(s) => write!(f, "invalid market state: {s}"),
-                    Self::NumericalError(s) => write!(f, "numerical error: {s}"),
-                }
-            }
-        }
-    }
-}
-
+#[path = "../../oracle/src/port/cells.rs"]
+mod cells;
 #[path = "../../oracle/src/counts.rs"]
 mod counts;
 #[path = "../../target/oracle/counted/surface.rs"]
@@ -53,27 +32,14 @@ mod house;
 mod plain;
 #[path = "../../target/oracle/started/surface.rs"]
 mod started;
+#[path = "../../oracle/src/types.rs"]
+mod types;
 
+use cells::{Limits, cell, port_solve};
 use house::{House, Record, Settings};
 use plain::calibrate::{FitConfig, SliceObservation, inner};
-
-#[repr(C)]
-#[derive(Clone, Copy)]
-struct Limits {
-    a_min: f64,
-    a_max: f64,
-    pivot_tolerance: f64,
-    feasibility_tolerance: f64,
-}
-
-#[repr(C)]
-struct Cell {
-    some: bool,
-    objective: f64,
-    x: [f64; 3],
-    active: [bool; 7],
-    faces: usize,
-}
+// Of another copy: a second caller in the plain one would change how its cells are compiled.
+use started::calibrate::solve_linear;
 
 #[repr(C)]
 struct Timespec {
@@ -81,11 +47,9 @@ struct Timespec {
     nanos: i64,
 }
 
-#[link(name = "port", kind = "static")]
 unsafe extern "C" {
     fn clock_gettime(clock: i32, now: &mut Timespec) -> i32;
     fn port_run(file: *const u8, file_len: usize, out: *mut u8, out_len: usize) -> usize;
-    fn port_cell(k: *const f64, ks: usize, w: *const f64, ws: usize, t: *const f64, ts: usize, l: Limits, m: f64, sigma: f64) -> Cell;
 }
 
 /// What callgrind counts: `--toggle-collect=measured_*`.
@@ -111,8 +75,7 @@ extern "C" fn measured_rust_cell(c: &OneCell) {
 #[unsafe(no_mangle)]
 #[inline(never)]
 extern "C" fn measured_port_cell(c: &OneCell) -> usize {
-    let (k, w, t) = (&c.k, &c.w, &c.t);
-    black_box(unsafe { port_cell(k.as_ptr(), k.len(), w.as_ptr(), w.len(), t.as_ptr(), t.len(), c.limits, c.m, c.sigma) }).faces
+    black_box(cell(&c.k, &c.w, &c.t, c.limits, c.m, c.sigma)).faces
 }
 
 /// A number from 0 to 1 out of a count, the same on every machine.
@@ -241,7 +204,7 @@ fn fits(rounds: usize) {
     }
 }
 
-fn cells(rounds: usize) {
+fn single_cells(rounds: usize) {
     println!("{:18}{:>10}{:>10}{:>8}", "one cell", "Rust us", "port us", "ratio");
     for kind in ["one", "all"] {
         for count in SIZES {
@@ -252,6 +215,28 @@ fn cells(rounds: usize) {
             let name = if kind == "one" { format!("1 face, {count}") } else { format!("64 faces, {count}") };
             println!("{name:18}{:10.2}{:10.2}{ratio:8.2}", r * 1e6 / times as f64, p * 1e6 / times as f64);
         }
+    }
+}
+
+/// Nanoseconds a solve, the least of 400 short rounds. The Rust takes a copy of its matrix, as `inner` makes one for each face; the copy alone is timed too.
+fn solves() {
+    const SOLVES: usize = 2_000;
+    for n in 3..=6 {
+        let system = |s: usize| (std::array::from_fn(|i| 2.0 * noise(42 * s + i) - 1.0), std::array::from_fn(|i| 2.0 * noise(42 * s + 36 + i) - 1.0));
+        let made: Vec<([f64; 36], [f64; 6])> = (0..256).map(system).collect();
+        let vectors: Vec<_> = made.iter().map(|(m, rhs)| (m.chunks(6).take(n).map(|row| row[..n].to_vec()).collect::<Vec<_>>(), rhs[..n].to_vec())).collect();
+        let (mut rust, mut bare, mut port) = (f64::MAX, f64::MAX, f64::MAX);
+        let nanos = |one: &dyn Fn(usize)| seconds(|| (0..SOLVES).for_each(|i| one(i % 256))) * 1e9 / SOLVES as f64;
+        for _ in 0..400 {
+            rust = rust.min(nanos(&|i| _ = black_box(solve_linear(black_box(vectors[i].0.clone()), vectors[i].1.clone(), 1e-12))));
+            bare = bare.min(nanos(&|i| _ = black_box(vectors[i].clone())));
+            port = port.min(nanos(&|i| {
+                let mut x = [0.0; 6];
+                black_box(port_solve(black_box(&made[i].0), &made[i].1, n, 1e-12, &mut x));
+                black_box(x);
+            }));
+        }
+        println!("size {n}: Rust {rust:.0} ns ({bare:.0} of them the copy), port {port:.0} ns, ratio {:.2} (without the copy {:.2})", port / rust, port / (rust - bare));
     }
 }
 
@@ -281,7 +266,8 @@ fn main() {
     let rounds = words.get(1).and_then(|w| w.parse().ok()).unwrap_or(7);
     match words.first().map(String::as_str) {
         Some("fits") => fits(rounds),
-        Some("cells") => cells(rounds),
+        Some("cells") => single_cells(rounds),
+        Some("solves") => solves(),
         Some("fit" | "cell") => once(&words),
         _ => std::process::exit(2),
     }

@@ -1,9 +1,8 @@
 /* Slices, points, surfaces and diagnostics from C, and the two calls inside the fit: good and bad input. Its last line is 'N passed, M failed'. */
 #include "kesupayro.h"
 
-#include "expect.h"
+#include "small_stack.h"
 #include <math.h>
-#include <pthread.h>
 #include <string.h>
 
 static const PortKRange wide = {-1, 1};
@@ -199,11 +198,5 @@ static void *all(void *nothing)
 int main(void)
 {
     layouts();
-    pthread_attr_t small;
-    pthread_t thread;
-    pthread_attr_init(&small);
-    EXPECT(pthread_attr_setstacksize(&small, 256 << 10) == 0);
-    EXPECT(pthread_create(&thread, &small, all, NULL) == 0 && pthread_join(thread, NULL) == 0);
-    printf("%d passed, %d failed\n", passed, failed);
-    return failed != 0;
+    return with_256_kib(all);
 }

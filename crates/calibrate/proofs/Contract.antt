@@ -1,4 +1,4 @@
--- The contract of `fit_slice`, once for every refusal and once for an accepted fit; and that no second answer meets it. Assumes nothing.
+-- The contract of `fit_slice`, once for every refusal and once for an accepted fit. Assumes nothing.
 use mathlib.Core.Path.{_≡_, refl, sym, ap, _∙_}
 use mathlib.Core.List.{List, _++_}
 use Prim.Native.Nat.{ℕ, _*_}
@@ -46,13 +46,3 @@ module _ {tau : Float} {c : FitConfig} {ks ws ts o : List Float} {p : List ℕ} 
             ∙ ap (λ (x : FitAnswer). written (r .number) (residualsOf (x .slice) ks ws) o) (sym k);
         listed = b ∙ rw (l, q) (wrote (r .number) (cappedOf (c .«max_weight_ratio») ts) p y);
       }
-
-  -- no second answer: two outcomes, each an answer and the two buffers, that meet the contract for one input are equal
-  pub one-answer : {r₁ : FitAnswer} {o₀ o₁ : List Float} {p₀ p₁ : List ℕ} → Fitted tau c ks ws ts o p r o₀ p₀ → Fitted tau c ks ws ts o p r₁ o₁ p₁
-      → (r ≡ r₁) × (o₀ ≡ o₁) × (p₀ ≡ p₁)
-  one-answer {r₁} x y =
-      let e : r ≡ r₁ = x .answer ∙ sym (y .answer) in (
-        e,
-        x .left ∙ ap (λ (a : FitAnswer). written (a .number) (residualsOf (a .slice) ks ws) o) e ∙ sym (y .left),
-        x .listed ∙ ap (λ (a : FitAnswer). written (a .number) (cappedOf (c .«max_weight_ratio») ts) p) e ∙ sym (y .listed),
-      )

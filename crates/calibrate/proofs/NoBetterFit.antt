@@ -72,7 +72,7 @@ module _ (tau : Float) (c : FitConfig) (ks ws ts : List Float) where
   abbrev edge-part : FitAnswer
   edge-part = cond (fitSearch c ks ws ts .found .«on_edge») (refusedWith 7 0 0 +0 +0 counts) slice-part
 
-  pub taken : decidedOf tau c ks ws ts .number ≡ 0 → Taken tau c ks ws ts (decidedOf tau c ks ws ts)
+  taken : decidedOf tau c ks ws ts .number ≡ 0 → Taken tau c ks ws ts (decidedOf tau c ks ws ts)
   unfolding decidedOf searchEnd bestEnd endOf
   taken h =
       let a = took-second (fitSearch c ks ws ts .refused) (refusedWith 6 0 0 +0 +0 counts) edge-part (other-number 6 0 0 +0 +0 counts (omega arith)) h in
@@ -98,7 +98,7 @@ module _ (tau : Float) (c : FitConfig) (ks ws ts : List Float) (room slots : ℕ
   plan = planOf c (rangeOf ks)
 
   -- whatever the search of an input that passes the entry checks comes to: the best of its faces, over all passes made
-  pub search-best : (e : entryNumber tau c ks ws ts room slots ≡ 0) →
+  search-best : (e : entryNumber tau c ks ws ts room slots ≡ 0) →
       (let r = in-range c ks ws ts (passed tau c ks ws ts room slots (entered tau c ks ws ts room slots e .0) .sized) in Best ks ws scaled limits r plan (fitSearch c ks ws scaled))
   unfolding fitSearch
   search-best e = best ks ws scaled limits (in-range c ks ws ts (passed tau c ks ws ts room slots (entered tau c ks ws ts room slots e .0) .sized)) plan

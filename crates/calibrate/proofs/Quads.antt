@@ -41,7 +41,7 @@ module _ (s : SviSlice) (ks ws : List Float) where
   abbrev pub rowsTo : ℕ → List Float
   rowsTo i = for 0 i (λ i l. l ++ row i) []
 
-  pub rows-length : (i : ℕ) → length (rowsTo i) ≡ i * 4
+  rows-length : (i : ℕ) → length (rowsTo i) ≡ i * 4
   rows-length i =
       for-ind (λ i l. l ++ row i) (λ (i : ℕ) (l : List Float). length l ≡ i * 4) i (λ j l k h. length-append l (row j) ∙ omega (arith, h)) [] (omega arith)
 

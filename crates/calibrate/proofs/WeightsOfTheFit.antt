@@ -1,12 +1,11 @@
 -- The weights of a fit that passes the entry checks: sorted they rise, and scaled each lies in (0, 1] and one of them is 1.
-use mathlib.Core.Path.{_≡_, refl, sym, subst}
-use mathlib.Core.Logic.{⊎-elim}
+use mathlib.Core.Path.{_≡_, sym, subst}
 use mathlib.Core.Bool.{Bool, true, _&&_}
 use mathlib.Core.List.{List}
-use Prim.Native.Nat.{ℕ, _+_, _<_}
+use Prim.Native.Nat.{ℕ, _<_}
 use native.Mathlib.Omega.{arith}
 use native.Mathlib.Nat.{not-suc-le-zero}
-use lib.Dec.{T, leb}
+use lib.Dec.{T}
 use lib.ListN.{length}
 use lib.Ieee.{Float, le}
 use Rattle.laws.specs.Floats.{+0, at, finite, positive}
@@ -14,16 +13,15 @@ use Rattle.laws.proofs.Choices.{both, passed-one}
 use Rattle.laws.proofs.Floats.{finite-no-nan}
 use Rattle.laws.proofs.Loops.{for-ind}
 use Rattle.weights.specs.Weights.{sortOf, scaledOf}
-use Rattle.weights.proofs.Sorted.{Number, Each, each-at, Rising, rising-sort}
+use Rattle.weights.proofs.Sorted.{Number, each-at, Rising, rising-sort}
 use Rattle.weights.proofs.Shares.{Shares, shares}
 use Rattle.search.proofs.Passes.{below-next}
 use Rattle.calibrate.specs.declared.FitConfig.{FitConfig}
-use Rattle.calibrate.specs.Settings.{settingsHold}
 use Rattle.calibrate.specs.Entry.{lengthsHold, sizesHold, passes, allPass, checksNumber, entryNumber}
 use Rattle.calibrate.proofs.Known.{passed, entered}
 
 -- check 10 holds at each observation
-pub each-passes : (ks ws ts : List Float) → allPass ks ws ts ≡ true → (i : ℕ) → i < length ks → passes (at ks i) (at ws i) (at ts i) ≡ true
+each-passes : (ks ws ts : List Float) → allPass ks ws ts ≡ true → (i : ℕ) → i < length ks → passes (at ks i) (at ws i) (at ts i) ≡ true
 unfolding allPass
 each-passes ks ws ts =
     for-ind (λ i b. b && passes (at ks i) (at ws i) (at ts i)) (λ (n : ℕ) (b : Bool). b ≡ true → (i : ℕ) → i < n → passes (at ks i) (at ws i) (at ts i) ≡ true) (length ks)

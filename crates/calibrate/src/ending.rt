@@ -10,8 +10,6 @@ use crate::Reading;
 use crate::Residual;
 use crate::Sums;
 use crate::params;
-use cell::Cell;
-use cell::polytope;
 use search::Counts;
 use search::Found;
 use search::Search;

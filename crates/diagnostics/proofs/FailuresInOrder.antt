@@ -12,7 +12,6 @@ use Rattle.laws.specs.Loop.{turns, for}
 use Rattle.laws.specs.Room.{atFront}
 use Rattle.laws.proofs.Loops.{turns-last, for-ind}
 use Rattle.laws.proofs.Rooms.{put-next}
-use Rattle.diagnostics.specs.declared.grid.Walk.{Walk}
 use Rattle.diagnostics.specs.declared.points.Seen.{Seen}
 use Rattle.diagnostics.specs.declared.points.Seen.the-variants.{Good, Failed}
 use Rattle.diagnostics.specs.declared.report.DiagnosticsConfig.{DiagnosticsConfig}

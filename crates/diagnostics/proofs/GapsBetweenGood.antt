@@ -1,7 +1,7 @@
 -- The gap tally is exactly that of the neighbouring pairs of which neither failed, in walking order, each recorded at the earlier tau: no pair more, none less.
 -- So of every walk, whatever is seen at its points. Assumes nothing.
 use mathlib.Core.Path.{_≡_, refl, sym, ap, _∙_}
-use mathlib.Core.Bool.{Bool, true, false, cond}
+use mathlib.Core.Bool.{Bool, true, cond}
 use mathlib.Core.List.{List}
 use Prim.Native.Nat.{ℕ, zero, suc, _+_, _-_, _≤_, _<_}
 use native.Mathlib.Omega.{arith}

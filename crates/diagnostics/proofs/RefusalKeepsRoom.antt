@@ -12,7 +12,7 @@ use Rattle.laws.specs.Choice.{unless}
 use Rattle.surface.specs.declared.types.Run.{Run}
 use Rattle.surface.specs.declared.types.ShortExpiryPolicy.{ShortExpiryPolicy}
 use Rattle.diagnostics.specs.declared.report.DiagnosticsConfig.{DiagnosticsConfig}
-use Rattle.diagnostics.specs.declared.report.Diagnosed.the-variants.{Done, Refused}
+use Rattle.diagnostics.specs.declared.report.Diagnosed.the-variants.{Refused}
 use Rattle.diagnostics.specs.Walk.{State}
 use Rattle.diagnostics.specs.Diagnostics.{outcome, reported, diagnoseNumber, diagnoseOf, diagnosedNumber}
 

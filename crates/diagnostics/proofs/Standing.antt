@@ -7,7 +7,7 @@ use native.Mathlib.Nat.{div-lt-iff-lt-mul, mul-zero, mul-le-mul-right}
 use native.Mathlib.Omega.{arith}
 use lib.Dec.{ltb}
 use lib.Ieee.{Float}
-use borrow.Author.Tests.{lt-ltb, le-ltb, ltb-true, ltb-false}
+use borrow.Author.Tests.{le-ltb, ltb-true, ltb-false}
 use Rattle.diagnostics.specs.declared.tally.Check.{Check}
 use Rattle.diagnostics.specs.declared.grid.Previous.{Previous}
 use Rattle.diagnostics.specs.declared.grid.Walk.{Walk}
@@ -15,7 +15,7 @@ use Rattle.diagnostics.specs.declared.points.Seen.{Seen}
 use lib.ListN.{length}
 use Rattle.laws.specs.Loop.{for}
 use Rattle.diagnostics.specs.declared.report.DiagnosticsConfig.{DiagnosticsConfig}
-use Rattle.diagnostics.specs.Walk.{State, standing, visitOf, PointFn, rowTurn, rowOf, walkTurn}
+use Rattle.diagnostics.specs.Walk.{State, standing, visitOf, PointFn, rowTurn, walkTurn}
 use Rattle.diagnostics.specs.Diagnostics.{Outcome, diagnoseNumber, reportOf, reported, outcome}
 use Rattle.diagnostics.specs.declared.report.SurfaceDiagnostics.{SurfaceDiagnostics}
 use Rattle.diagnostics.specs.declared.report.Diagnosed.{Diagnosed}
@@ -32,7 +32,7 @@ same-by a b c d f g true false e h = absurd (omega (arith, f (ltb-true a b e), l
 same-by a b c d f g false true e h = absurd (omega (arith, g (ltb-true c d h), ltb-false a b e))
 same-by a b c d f g false false e h = refl
 
-pub same-test : (a b c d : ℕ) → (a < b → c < d) → (c < d → a < b) → ltb a b ≡ ltb c d
+same-test : (a b c d : ℕ) → (a < b → c < d) → (c < d → a < b) → ltb a b ≡ ltb c d
 same-test a b c d f g = same-by a b c d f g (ltb a b) (ltb c d) refl refl
 
 pub no-tau : (room nk nt : ℕ) → nt ≡ 0 → false ≡ ltb room (3 * (nk * nt))

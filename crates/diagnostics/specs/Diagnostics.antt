@@ -1,5 +1,5 @@
 -- The diagnostics of a surface (diagnostics.rs: `DiagnosticsConfig`, `SurfaceDiagnostics`, `diagnose`): the tests in order, then the walk. Definitions only.
-use mathlib.Core.Bool.{Bool, true, false, _&&_, cond}
+use mathlib.Core.Bool.{Bool, _&&_, cond}
 use mathlib.Core.List.{List}
 use Prim.Native.Nat.{ℕ, _*_}
 use lib.Dec.{eqb, ltb}

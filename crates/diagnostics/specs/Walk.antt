@@ -1,5 +1,5 @@
 -- The walk over a grid (diagnostics.rs: `butterfly_g`, the loops of `diagnose`). Every operation is rounded once, in the order written. Definitions only.
-use mathlib.Core.Bool.{Bool, true, false, cond}
+use mathlib.Core.Bool.{true, false, cond}
 use mathlib.Core.List.{List}
 use Prim.Native.Nat.{ℕ, _+_, _*_}
 use lib.ListN.{set, length}
@@ -12,7 +12,6 @@ use Rattle.point.specs.declared.Total.the-variants as total
 use Rattle.slice.specs.declared.SviSlice.{SviSlice}
 use Rattle.surface.specs.declared.types.ShortExpiryPolicy.{ShortExpiryPolicy}
 use Rattle.surface.specs.Surface.{varianceAt}
-use Rattle.diagnostics.specs.declared.tally.DiagnosticPoint.{DiagnosticPoint}
 use Rattle.diagnostics.specs.declared.tally.Check.{Check}
 use Rattle.diagnostics.specs.declared.points.Seen.{Seen}
 use Rattle.diagnostics.specs.declared.points.Seen.the-variants.{Good, Failed}

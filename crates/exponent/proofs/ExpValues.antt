@@ -84,7 +84,7 @@ split true x y f g = f tt
 split false x y f g = g tt
 
 -- no NaN, and no sign: not even -0
-pub exp-signed : (x : Float) → T (not (isNan x)) → Signed false (expOf x)
+exp-signed : (x : Float) → T (not (isNan x)) → Signed false (expOf x)
 unfolding expOf
 exp-signed x h =
     let d = kernelOf x +0 in

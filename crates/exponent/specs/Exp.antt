@@ -1,6 +1,6 @@
 -- exp, as a fixed list of rounded steps (docs/ELEMENTARY.md). Definitions only.
 use Prim.Native.Nat.{ℕ, _+_, _-_, _*_, _/_}
-use mathlib.Core.Bool.{Bool, true, false, cond}
+use mathlib.Core.Bool.{false, cond}
 use lib.Ieee.{Float, inf, neg, lt, ne, toUnsigned}
 use Rattle.laws.specs.Loop.{for}
 use Rattle.laws.specs.Floats.{_+f_, _-f_, _*f_, _/f_, f64, num, +0, half, one, two}

@@ -1,6 +1,6 @@
 -- ln, as a fixed list of rounded steps (docs/ELEMENTARY.md). Definitions only.
 use Prim.Native.Nat.{ℕ, _+_, _-_, _*_, _/_, _%_}
-use mathlib.Core.Bool.{Bool, true, false, cond}
+use mathlib.Core.Bool.{true, false, cond}
 use lib.Ieee.{Float, nan, inf, binary64, lt, eq, ne, toBits}
 use Rattle.laws.specs.Loop.{for}
 use Rattle.laws.specs.Floats.{_+f_, _-f_, _*f_, _/f_, f64, num, +0, half, one, two}

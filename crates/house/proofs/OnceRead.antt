@@ -95,7 +95,7 @@ module _ (s : List ℕ) (b : Bytes s) (v n : ℕ) (e : File v n ≡ houseOf s) w
   pub once-house : houseOf (onceOf s) ≡ File v (length (kept (recordsAt s v n)))
   once-house = ap houseOf (sym once-is) ∙ house-back v (wordsFrom s 4 (11 * v)) (u64At s (8 + 88 * v)) (kept all) small (words-length s 4 (11 * v)) short
 
-  pub once-records : recordsAt (onceOf s) v (length (kept (recordsAt s v n))) ≡ kept (recordsAt s v n)
+  once-records : recordsAt (onceOf s) v (length (kept (recordsAt s v n))) ≡ kept (recordsAt s v n)
   once-records =
       ap (λ (x : List ℕ). recordsAt x v (length (kept all))) (sym once-is)
       ∙ records-back v (wordsFrom s 4 (11 * v)) (u64At s (8 + 88 * v)) (kept all) small (words-length s 4 (11 * v)) short (kept-wide all (quotes-wide s b (20 + 88 * v) n))

@@ -52,7 +52,7 @@ u64-at p n t i h e = rw (e, ← add-zero (length p)) (u64-past p (le 8 n ++ t) 0
 
 -- ---- words
 
-pub words-long : (ns : List ℕ) → length (wordsBytes ns) ≡ 8 * length ns
+words-long : (ns : List ℕ) → length (wordsBytes ns) ≡ 8 * length ns
 unfolding wordsBytes
 words-long [] = refl
 words-long (n ∷ ns) = rw length-append (omega (arith, words-long ns))

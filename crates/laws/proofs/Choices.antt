@@ -3,7 +3,6 @@
 use mathlib.Core.Path.{_≡_, refl, sym, ap, _∙_, subst}
 use mathlib.Core.Bool.{Bool, true, false, not, _&&_, cond}
 use Prim.Native.Nat.{ℕ}
-use native.Mathlib.Omega.{arith}
 use lib.Dec.{T, eqb}
 use borrow.Author.Tests.{eq-eqb, ne-eqb, eqb-true, not-true, not-false}
 use Rattle.laws.specs.Choice.{unless}
@@ -57,14 +56,6 @@ number-goes n {r} {m} e h k = if-true _ (eq-eqb m 0 (sym e ∙ h)) k
 -- the number itself is handed on in a refusal
 pub number-no : {A : Type 0} (x : A) (refusal : ℕ → A) {n m : ℕ} → n ≡ m → (n ≡ 0 → ⊥) → refusal n ≡ unless (eqb m 0) (refusal m) x
 number-no x refusal {n} {m} e h = number-stops x e h (ap refusal e)
-
--- ---- chains of `&&`: one that failed ends it, one that held hands on to the next
-
-pub stop : {a r : Bool} (x : Bool) → r ≡ a → not r ≡ true → false ≡ a && x
-stop {a} {r} x e h = rw (← e, not-true r h)
-
-pub go : {a r x y : Bool} → r ≡ a → not r ≡ false → y ≡ x → y ≡ a && x
-go {a} {r} e h k = rw (← e, not-false r h) k
 
 -- ---- backwards
 

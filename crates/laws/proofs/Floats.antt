@@ -61,13 +61,6 @@ between-infinities (inf true) = refl
 between-infinities (inf false) = refl
 between-infinities (fin s m e) = refl
 
--- of a magnitude one comparison is enough
-pub abs-finite : (x : Float) → lt (absOf x) (div binary64 one +0) ≡ finite x
-unfolding lt div ofBits absOf finite
-abs-finite nan = refl
-abs-finite (inf s) = refl
-abs-finite (fin s m e) = refl
-
 pub finite-no-nan : (x : Float) → finite x ≡ true → T (not (isNan x))
 unfolding finite isNan
 finite-no-nan nan e = false-true e

@@ -1,8 +1,6 @@
 -- The laws of `for` and `first`: a loop's invariant is "what is left to do, done to the present state, is the whole". Assumes nothing.
 use mathlib.Core.Path.{_≡_, refl, sym, ap, _∙_}
 use mathlib.Core.Bool.{Bool, true, false, cond}
-use mathlib.Core.List.{List}
-use mathlib.Core.Logic.{⊎-elim}
 use Prim.Native.Nat.{ℕ, zero, suc, _+_, _-_, _<_, _≤_}
 use native.Mathlib.Omega.{arith}
 use native.Mathlib.Nat.{add-zero, zero-add}
@@ -99,12 +97,3 @@ module _ (p : ℕ → Bool) (i b : ℕ) where
   first-none {w} l inv =
       let k : b - i ≡ 0 = omega arith in
       sym (ap (λ (n : ℕ). search-on p n i) k) ∙ inv
-
--- two searches by tests that agree find the same
-search-same : (p q : ℕ → Bool) (b k i : ℕ) → i + k ≡ b → ((j : ℕ) → j < b → p j ≡ q j) → search-on p k i ≡ search-on q k i
-unfolding search-on
-search-same p q b zero i e h = refl
-search-same p q b (suc k) i e h = rw (h i (omega arith), search-same p q b k (i + 1) (omega arith) h)
-
-pub first-same : (p q : ℕ → Bool) (b : ℕ) → ((j : ℕ) → j < b → p j ≡ q j) → first p 0 b ≡ first q 0 b
-first-same p q b h = search-same p q b (b - 0) 0 (omega arith) h

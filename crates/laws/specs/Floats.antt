@@ -4,7 +4,7 @@ use mathlib.Core.List.{List}
 use Prim.Native.Nat.{ℕ}
 use lib.IntN.{pos}
 use lib.ListN.{getD}
-use lib.Ieee.{Float, nan, inf, fin, binary64, add, sub, mul, div, neg, lt, ne, ofBits, ofInt}
+use lib.Ieee.{Float, nan, inf, fin, binary64, add, sub, mul, div, lt, ne, ofBits, ofInt}
 
 -- the four operations
 infixl 60 _+f_

@@ -1,7 +1,6 @@
 -- The marked examples of document 01, M1 to M10, as one table under a single theorem: each by computation on the definitions that the contracts cite. Assumes nothing.
 use mathlib.Core.Path.{_≡_}
 use mathlib.Core.List.{List, [], _∷_}
-use Prim.Native.Nat.{ℕ}
 use lib.ListN.{getD, length}
 use lib.Ieee.{Float}
 use Rattle.laws.specs.Floats.{f64, +0, quarter, half, one, two, four}

@@ -1,5 +1,5 @@
 -- What a point's functions answer (surface.rs: `check_point`, `TotalVariance`), on every input. Definitions only.
-use mathlib.Core.Bool.{Bool, true, false, _&&_, cond}
+use mathlib.Core.Bool.{_&&_}
 use Prim.Native.Nat.{ℕ}
 use lib.Dec.{eqb}
 use lib.Ieee.{Float}
@@ -22,8 +22,3 @@ unfoldable pub totalOf : Float → Float → Float → Float → Total
 totalOf w wk wkk wtau =
     let v : TotalVariance = record { w = w; «w_k» = wk; «w_kk» = wkk; «w_tau» = wtau } in
     unless (eqb (totalNumber v) 0) (total.Refused (totalNumber v)) (total.At v)
-
--- the number of an answer: 0 for a value
-abbrev pub totalsNumber : Total → ℕ
-totalsNumber (total.At v) = 0
-totalsNumber (total.Refused n) = n

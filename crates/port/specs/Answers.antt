@@ -1,22 +1,18 @@
 -- The answers as records: the number of a refusal, or 0, and the values of each case. A refusal carries zeros. Definitions only.
-use mathlib.Core.Bool.{Bool, true, false, cond}
+use mathlib.Core.Bool.{true, false, cond}
 use mathlib.Core.List.{List}
 use Prim.Native.Nat.{ℕ}
 use lib.Dec.{eqb}
 use lib.Ieee.{Float}
 use Rattle.laws.specs.Floats.{+0}
-use Rattle.slice.specs.declared.KRange.{KRange}
-use Rattle.slice.specs.declared.SviSlice.{SviSlice}
 use Rattle.slice.specs.declared.Ranged.{Ranged}
 use Rattle.slice.specs.declared.Ranged.the-variants as ranged
 use Rattle.slice.specs.declared.Made.{Made}
 use Rattle.slice.specs.declared.Made.the-variants as made
 use Rattle.slice.specs.declared.Level.{Level}
 use Rattle.slice.specs.declared.Level.the-variants as level
-use Rattle.slice.specs.declared.Values.{Values}
 use Rattle.slice.specs.declared.Evaluated.{Evaluated}
 use Rattle.slice.specs.declared.Evaluated.the-variants as evaluated
-use Rattle.point.specs.declared.TotalVariance.{TotalVariance}
 use Rattle.point.specs.declared.Total.{Total}
 use Rattle.point.specs.declared.Total.the-variants as total
 use Rattle.surface.specs.declared.types.Run.{Run}
@@ -35,7 +31,7 @@ use Rattle.diagnostics.specs.declared.report.SurfaceDiagnostics.{SurfaceDiagnos
 use Rattle.diagnostics.specs.declared.report.Diagnosed.{Diagnosed}
 use Rattle.diagnostics.specs.declared.report.Diagnosed.the-variants as diagnosed
 use Rattle.diagnostics.specs.Tally.{noCheck}
-use Rattle.diagnostics.specs.Diagnostics.{Outcome, diagnoseOf}
+use Rattle.diagnostics.specs.Diagnostics.{diagnoseOf}
 use Rattle.port.specs.declared.answers.RangeAnswer.{RangeAnswer}
 use Rattle.port.specs.declared.answers.SliceAnswer.{SliceAnswer}
 use Rattle.port.specs.declared.answers.LevelAnswer.{LevelAnswer}

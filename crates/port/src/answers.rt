@@ -1,7 +1,5 @@
 // The answers of the library as records: the number of a refusal, or 0, and the values. A refusal carries zeros.
 ghost use mathlib.Core.Path.{_≡_};
-ghost use Rattle.diagnostics.specs.Diagnostics.{diagnoseOf};
-ghost use Rattle.surface.specs.Surface.{regionRun, coversRun};
 ghost use Rattle.port.specs.Answers.{policyOf, rangeAnswer, sliceAnswer, levelAnswer, valuesAnswer, totalAnswer, bracketAnswer, regionAnswer, coversAnswer, noDiagnostics, diagnosedAnswer, bracketFor, regionFor, totalFor, coversFor, diagnosedFor, roomFor};
 use diagnostics::report::Diagnosed;
 use diagnostics::report::DiagnosticsConfig;

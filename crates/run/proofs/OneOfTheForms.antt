@@ -1,32 +1,28 @@
 -- Every answer has one of the forms of the print rules: a malformed file's one line; 11 or 10 with as many kept as read; 1, 2, 4, 5; 3 with its two counts;
 -- 6, 7, 8 behind `search`; 9 behind `search` with its two floats; or an accepted fit.
-use Prim.Native.Nat.{ℕ, zero, suc, _+_, _*_, _≤_, _<_}
+use Prim.Native.Nat.{ℕ, zero, suc, _*_, _≤_, _<_}
 use mathlib.Core.Path.{_≡_, refl, sym, ap, subst, _∙_}
-use mathlib.Core.Bool.{Bool, true, false, _&&_, _||_, cond}
+use mathlib.Core.Bool.{Bool, true, false, _||_}
 use mathlib.Core.List.{List, [], _∷_, _++_, map}
 use native.Mathlib.Omega.{arith}
 use lib.Dec.{eqb, leb}
-use lib.ListN.{length, getD, length-map, replicate}
+use lib.ListN.{length, length-map}
 use lib.Ieee.{Float}
-use borrow.Author.Tests.{eq-eqb, ne-eqb, eqb-true, le-leb}
+use borrow.Author.Tests.{eq-eqb, eqb-true, le-leb}
 use Rattle.laws.specs.Choice.{unless}
-use Rattle.laws.specs.Loop.{for}
 use Rattle.laws.specs.Floats.{+0, at, positive}
 use Rattle.laws.proofs.Choices.{cond-ind, false-true, both}
 use Rattle.laws.proofs.Loops.{for-ind}
-use Rattle.slice.specs.declared.KRange.{KRange}
 use Rattle.slice.specs.declared.SviSlice.{SviSlice}
 use Rattle.slice.specs.Slice.{numberOf}
 use Rattle.search.specs.declared.Counts.{Counts}
-use Rattle.search.specs.declared.Search.{Search}
 use Rattle.weights.specs.Weights.{scaledOf, allGood, cappedOf}
 use Rattle.calibrate.specs.declared.FitConfig.{FitConfig}
 use Rattle.calibrate.specs.declared.FitAnswer.{FitAnswer}
-use Rattle.calibrate.specs.declared.Sums.{Sums}
 use Rattle.calibrate.specs.Settings.{settingsHold}
 use Rattle.calibrate.specs.Entry.{lengthsHold, sizesHold, passes, allPass as columnsPass, spanOf, checksNumber, entryNumber}
 use Rattle.calibrate.specs.End.{refusedWith, sumsOf, paramsHold, rmseOf, rmseHolds, acceptedOf, endOf}
-use Rattle.calibrate.specs.Fit.{fitSearch, bestEnd, searchEnd, decidedOf, refusedEarly, cappedAs, fitOf, residualsOf}
+use Rattle.calibrate.specs.Fit.{fitSearch, bestEnd, searchEnd, decidedOf, refusedEarly, cappedAs, fitOf}
 use Rattle.house.specs.declared.House.{House}
 use Rattle.house.specs.declared.House.the-variants.{Malformed, File}
 use Rattle.house.specs.declared.Quote.{Quote}
@@ -169,7 +165,7 @@ module _ (read kept : ℕ) (tau : Float) (c : FitConfig) (ks ws ts : List Float)
   outcome r true e f a p = p
   outcome r false e f a p = f e
 
-  pub fit-form : (room slots : ℕ) → lengthsHold ks ws ts room slots ≡ true → sizesHold (length ks) c ≡ true → columnsPass ks ws ts ≡ true → P (fitOf tau c ks ws ts room slots)
+  fit-form : (room slots : ℕ) → lengthsHold ks ws ts room slots ≡ true → sizesHold (length ks) c ≡ true → columnsPass ks ws ts ≡ true → P (fitOf tau c ks ws ts room slots)
   unfolding fitOf
   fit-form room slots x y z =
       let us = scaledOf (c .«max_weight_ratio») ts in

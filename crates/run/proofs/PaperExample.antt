@@ -1,12 +1,9 @@
 -- The printed example of document 01, by computation on the definitions: nine records of number 7, k 0, w 0.25, weight 1; no settings; tau 0.25.
 use Prim.Native.Nat.{ℕ}
-use mathlib.Core.Path.{_≡_, refl, sym, ap, _∙_}
-use mathlib.Core.Bool.{Bool, true}
+use mathlib.Core.Path.{_≡_, refl}
 use mathlib.Core.List.{List, []}
-use native.Mathlib.Omega.{arith}
 use lib.ListN.{replicate}
 use Rattle.house.specs.declared.Quote.{Quote}
-use Rattle.house.specs.declared.House.the-variants.{File}
 use Rattle.house.specs.File.{houseOf, f64At, tauOf, configOf, quoteAt, quotes}
 use Rattle.house.specs.Check.{quotePasses, allPass}
 use Rattle.house.specs.Repeats.{sameQuote, among, one, keptAfter, kept}

@@ -1,15 +1,15 @@
 -- A file with repeats prints, after its `read` line, what the file that holds only the first of each record prints after its own.
-use Prim.Native.Nat.{ℕ, suc, _+_, _*_, _≤_, _<_}
+use Prim.Native.Nat.{ℕ, _+_, _*_, _≤_}
 use mathlib.Core.Path.{_≡_, refl, sym, ap, _∙_}
-use mathlib.Core.Bool.{Bool, true, false, _&&_, cond}
-use mathlib.Core.List.{List, [], _++_, map}
+use mathlib.Core.Bool.{Bool, true, false, _&&_}
+use mathlib.Core.List.{List, _++_, map}
 use native.Mathlib.Omega.{arith}
 use lib.Dec.{eqb, leb}
 use lib.ListN.{length, length-map}
 use lib.Ieee.{Float}
-use borrow.Author.Tests.{eq-eqb, ne-eqb, eqb-true, le-leb}
+use borrow.Author.Tests.{le-leb}
 use Rattle.laws.specs.Choice.{unless}
-use Rattle.laws.proofs.Choices.{if-true, if-false, cond-ind, false-true}
+use Rattle.laws.proofs.Choices.{if-false, cond-ind}
 use Rattle.weights.specs.Weights.{cappedOf}
 use Rattle.calibrate.specs.declared.FitConfig.{FitConfig}
 use Rattle.calibrate.specs.declared.FitAnswer.{FitAnswer}
@@ -22,12 +22,12 @@ use Rattle.house.specs.declared.Quote.{Quote}
 use Rattle.house.specs.File.{houseOf, tauOf, configOf}
 use Rattle.house.specs.Check.{kOf, wOf, weightOf, allPass}
 use Rattle.house.specs.Repeats.{kept}
-use Rattle.house.specs.Taken.{recordsAt, refusalOf, taken, takenFor, takenOf, keptFor, keptOf}
+use Rattle.house.specs.Taken.{recordsAt, refusalOf, taken, takenFor, takenOf, keptOf}
 use Rattle.house.specs.Encode.{onceOf}
 use Rattle.house.proofs.Files.{file-is, quotes-length}
 use Rattle.house.proofs.Taking.{kept-file}
-use Rattle.house.proofs.Once.{kept-short, kept-once}
-use Rattle.house.proofs.OnceRead.{Bytes, once-house, once-records, once-kept, once-tau, once-config, once-refusal}
+use Rattle.house.proofs.Once.{kept-short}
+use Rattle.house.proofs.OnceRead.{Bytes, once-house, once-kept, once-tau, once-config, once-refusal}
 use Rattle.text.specs.Lines.{readLine, cappedLine, pointLines, refusedLine}
 use Rattle.text.specs.Answers.{earlyText, refusalText, refusedText, figuresText, acceptedText}
 use Rattle.text.proofs.Answering.{early-full, accepted-full}

@@ -5,10 +5,8 @@ use Rattle.laws.specs.Floats.{f64, +0, quarter, half, one, four, absOf, finite,
 use Rattle.roots.specs.Root.{rootOf}
 use Rattle.roots.specs.Hypot.{hypotOf}
 use Rattle.slice.specs.declared.SviSlice.{SviSlice}
-use Rattle.slice.specs.declared.KRange.{KRange}
 use Rattle.slice.specs.declared.Evaluated.{Evaluated}
 use Rattle.slice.specs.declared.Evaluated.the-variants as evaluated
-use Rattle.slice.specs.declared.Level.{Level}
 use Rattle.slice.specs.declared.Level.the-variants as level
 use Rattle.slice.specs.Slice.{numberOf, domainNumber, rangeNumber, lowestOf, leeOf, levelOf, minimumOf, evalOf, evalRaw, judgedOf, valuesOf, valuesAt, wingOf, acrossOf, alongOf}
 

@@ -1,5 +1,5 @@
 -- What the functions of a slice answer (svi.rs: `KRange`, `SviSlice`), on every input. Every operation is rounded once, in the order written. Definitions only.
-use mathlib.Core.Bool.{Bool, true, false, not, _&&_, cond}
+use mathlib.Core.Bool.{Bool, _&&_, cond}
 use Prim.Native.Nat.{ℕ}
 use lib.Dec.{eqb}
 use lib.Ieee.{Float, lt, le}
@@ -138,21 +138,3 @@ leeSlopeOf s = levelOf s (leeOf s)
 -- `eval`
 unfoldable pub evalOf : SviSlice → Float → Evaluated
 evalOf s k = unless (eqb (numberOf s) 0) (evaluated.Refused (numberOf s)) (evalRaw s k)
-
--- ---- the number of each answer: 0 for a value
-
-abbrev pub rangedNumber : Ranged → ℕ
-rangedNumber (ranged.Range r) = 0
-rangedNumber (ranged.Refused n) = n
-
-abbrev pub madeNumber : Made → ℕ
-madeNumber (made.Slice s) = 0
-madeNumber (made.Refused n) = n
-
-abbrev pub levelNumber : Level → ℕ
-levelNumber (level.Value v) = 0
-levelNumber (level.Refused n) = n
-
-abbrev pub evaluatedNumber : Evaluated → ℕ
-evaluatedNumber (evaluated.At v) = 0
-evaluatedNumber (evaluated.Refused n) = n

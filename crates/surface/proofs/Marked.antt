@@ -6,7 +6,6 @@ use Rattle.laws.specs.Floats.{f64, +0, half, one, two, four, absOf, finite, max
 use Rattle.laws.specs.Loop.{turns, search-on}
 use Rattle.roots.specs.Root.{rootOf}
 use Rattle.slice.specs.declared.SviSlice.{SviSlice}
-use Rattle.slice.specs.declared.KRange.{KRange}
 use Rattle.slice.specs.Slice.{numberOf, domainNumber, rangeNumber, lowestOf, leeOf}
 use Rattle.slice.proofs.Marked.{m6-slice}
 use Rattle.point.specs.Point.{pointNumber}

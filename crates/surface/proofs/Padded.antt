@@ -1,21 +1,16 @@
 -- Lists of records, padded. Assumes nothing.
 use mathlib.Core.Path.{_≡_, refl, sym, _∙_, ap}
 use Prim.Native.Nat.{ℕ, zero, suc, _+_, _≤_, _<_, zero-le}
-use mathlib.Core.Logic.{⊎-elim}
-use native.Mathlib.Nat.{le-of-suc-le-suc, not-suc-le-zero, not-le-of-lt}
+use native.Mathlib.Nat.{le-of-suc-le-suc, not-suc-le-zero}
 use native.Mathlib.Numerals.{add-one}
 use native.Mathlib.Omega.{arith}
 use mathlib.Core.Bool.{Bool, true, false}
 use mathlib.Core.List.{List, [], _∷_, _++_}
-use lib.Dec.{ltb, eqb, leb·suc-suc}
-use lib.Ieee
-use lib.Ieee.{Float, nan}
-use lib.ListN.{length, set, take, drop, getD, length-append, length-take}
-use lib.Seq.{take-suc, drop-cons, getD-take}
-use borrow.Author.Tests.{lt-ltb, le-ltb, eq-eqb, ne-eqb, ltb-true, ltb-false}
+use lib.Dec.{ltb, leb·suc-suc}
+use lib.ListN.{length, take, getD, length-append}
+use lib.Seq.{take-suc}
+use borrow.Author.Tests.{lt-ltb, le-ltb}
 use Rattle.slice.specs.declared.SviSlice.{SviSlice}
-use Rattle.slice.specs.declared.KRange.{KRange}
-use Rattle.surface.specs.declared.types.Run.{Run}
 use Rattle.surface.specs.Runs.{noSlice, pad, runOf}
 use Rattle.surface.specs.Inner.{keptIf, pushed}
 
@@ -27,13 +22,13 @@ kept-later : (b : Bool) (y : SviSlice) (ys : List SviSlice) (i : ℕ) (x : SviSl
 kept-later true y ys i x = refl
 kept-later false y ys i x = refl
 
-pub kept-pad : (n : ℕ) (ys : List SviSlice) (x : SviSlice) → keptIf (ltb (length ys) n) (pad n ys) (length ys) x ≡ pad n (ys ++ x ∷ [])
+kept-pad : (n : ℕ) (ys : List SviSlice) (x : SviSlice) → keptIf (ltb (length ys) n) (pad n ys) (length ys) x ≡ pad n (ys ++ x ∷ [])
 unfolding pad
 kept-pad zero ys x = rw (le-ltb (length ys) 0 zero-le)
 kept-pad (suc n) [] x = rw (lt-ltb 0 (suc n) (omega arith))
 kept-pad (suc n) (y ∷ ys) x = rw (ltb-suc (length ys) n) (kept-later (ltb (length ys) n) y (pad n ys) (length ys) x ∙ ap (λ (l : List SviSlice). y ∷ l) (kept-pad n ys x))
 
-pub push-is : (ys : List SviSlice) (x : SviSlice) → pushed (runOf ys) x ≡ runOf (ys ++ x ∷ [])
+push-is : (ys : List SviSlice) (x : SviSlice) → pushed (runOf ys) x ≡ runOf (ys ++ x ∷ [])
 push-is ys x = λ i. record { count = sym (length-append ys (x ∷ [])) i; recs = kept-pad 32 ys x i }
 
 -- one more record of a list

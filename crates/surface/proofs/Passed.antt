@@ -4,14 +4,14 @@ use mathlib.Core.Bool.{Bool, true, false, _||_, cond}
 use mathlib.Core.List.{List}
 use Prim.Native.Nat.{ℕ, _≤_, _<_}
 use native.Mathlib.Omega.{arith}
-use lib.Dec.{ltb, eqb}
+use lib.Dec.{ltb}
 use lib.Ieee.{Float}
 use lib.ListN.{length}
 use borrow.Author.Tests.{ltb-false}
 use Rattle.laws.proofs.Choices.{passed-number}
 use Rattle.surface.specs.declared.types.Run.{Run}
 use Rattle.surface.specs.declared.types.Bracket.{Bracket}
-use Rattle.surface.specs.declared.types.Bracket.the-variants.{Segment, Short, Refused}
+use Rattle.surface.specs.declared.types.Bracket.the-variants.{Segment}
 use Rattle.surface.specs.Runs.{checkRun}
 use Rattle.surface.specs.Axis.{gridNumber}
 use Rattle.surface.specs.Surface.{entryNumber}

@@ -1,5 +1,5 @@
 -- The lookup of a tau among the nodes of a surface (svi.rs: `node_tolerance`, `bracket`). The tolerances are handed in. Definitions only.
-use mathlib.Core.Bool.{Bool, true, false, cond}
+use mathlib.Core.Bool.{Bool, cond}
 use mathlib.Core.List.{List}
 use Prim.Native.Nat.{ℕ, _+_, _-_}
 use lib.Dec.{eqb, ltb}
@@ -88,9 +88,3 @@ bracketOf taus tols n policy k tau =
 -- the policy of a caller who names none
 abbrev pub defaultPolicy : ShortExpiryPolicy
 defaultPolicy = Reject
-
--- the number of an answer: 0 for a value
-abbrev pub bracketNumber : Bracket → ℕ
-bracketNumber Short = 0
-bracketNumber (Segment lo hi x) = 0
-bracketNumber (Refused n) = n

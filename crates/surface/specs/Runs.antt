@@ -1,5 +1,5 @@
 -- A lent run of slice records, and the tests that make it a surface (svi.rs: `SviSurface::new`, after each record's own tests). Definitions only.
-use mathlib.Core.Bool.{Bool, true, false, _&&_, cond}
+use mathlib.Core.Bool.{Bool, true, _&&_, cond}
 use mathlib.Core.List.{List, [], _∷_}
 use Prim.Native.Nat.{ℕ, zero, suc, _-_}
 use lib.Dec.{eqb, ltb}
@@ -8,7 +8,6 @@ use lib.Ieee.{Float, nan, lt}
 use Rattle.laws.specs.Choice.{unless}
 use Rattle.laws.specs.Floats.{+0, at}
 use Rattle.laws.specs.Loop.{for}
-use Rattle.slice.specs.declared.KRange.{KRange}
 use Rattle.slice.specs.declared.SviSlice.{SviSlice}
 use Rattle.slice.specs.Slice.{numberOf}
 use Rattle.surface.specs.declared.types.Run.{Run}

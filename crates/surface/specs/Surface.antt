@@ -131,15 +131,3 @@ coveredBy false = covered.NotAll
 -- `covers_nodes`: the tau axis holds the bits of every node
 unfoldable pub coversRun : Run → List Float → List Float → Covered
 coversRun run k tau = unless (eqb (entryNumber run k tau) 0) (covered.Refused (entryNumber run k tau)) (coveredBy (allHeld (run .recs) (run .count) tau))
-
--- ---- the number of each answer: 0 for a value
-
-abbrev pub regionNumber : Region → ℕ
-regionNumber region.Calibrated = 0
-regionNumber region.Extrapolated = 0
-regionNumber (region.Refused n) = n
-
-abbrev pub coveredNumber : Covered → ℕ
-coveredNumber covered.All = 0
-coveredNumber covered.NotAll = 0
-coveredNumber (covered.Refused n) = n

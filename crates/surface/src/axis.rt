@@ -1,6 +1,5 @@
 // The two axes of a diagnostic grid, lent.
 ghost use mathlib.Core.Path.{_≡_};
-ghost use lib.ListN.{length};
 ghost use Rattle.surface.specs.Axis.{risingOf, allPositive, gridNumber, heldOf};
 
 // Whether an axis has values, all finite, each above the one before it.

@@ -6,7 +6,7 @@ use lib.Ieee.{nan, toBits, ofBits, binary64}
 use Rattle.laws.specs.Loop.{turns}
 use Rattle.laws.specs.Floats.{f64}
 use Rattle.text.specs.Digits.{digitsOf, decimalOf, hexOf, each, marksOf}
-use Rattle.text.specs.Lines.{ascii, readLine, refusedLine, activeLine}
+use Rattle.text.specs.Lines.{ascii, refusedLine, activeLine}
 use Rattle.text.specs.Answers.{earlyText}
 
 pub nan-prints : hexOf (toBits binary64 nan) ≡ ascii "7ff8000000000000"
@@ -33,7 +33,3 @@ marks-print = refl
 pub malformed-prints : earlyText 43 0 ≡ ascii "refused 43 0 0\n"
 unfolding earlyText refusedLine each digitsOf
 malformed-prints = refl
-
-pub example-lines : readLine 9 1 ≡ ascii "read 9 kept 1\n"
-unfolding readLine each digitsOf
-example-lines = refl

@@ -145,9 +145,3 @@ empty o t size e = (sym (ap length e), (sym (ap (λ (x : List ℕ). placed x o) 
 -- a text was written on a page, and the page's front was handed over
 pub handed : {l l′ t : List ℕ} {n : ℕ} {r : ℕ} (o o′ : List ℕ) (size : ℕ) → length l ≤ size → Wrote l l′ 0 n t → r ≡ length (take n l′) → o′ ≡ placed (take n l′) o → (r ≡ length t) × ((o′ ≡ placed t o) × (r ≤ size))
 handed o o′ size h w e f = (e ∙ ap length (wrote-front w), (f ∙ ap (λ (x : List ℕ). placed x o) (wrote-front w), omega (arith, w .room, front-long w)))
-
--- no second answer: what was there, the place and the text settle the buffer and the next place
-pub wrote-unique : {l l₁ l₂ : List ℕ} {at r₁ r₂ : ℕ} {t : List ℕ} → Wrote l l₁ at r₁ t → Wrote l l₂ at r₂ t → (r₁ ≡ r₂) × (l₁ ≡ l₂)
-wrote-unique {l} {l₁} {l₂} {at} {r₁} {r₂} {t} a b =
-    let e : r₁ ≡ r₂ = omega arith in
-    (e, a .holds ∙ ap (λ (r : ℕ). take at l ++ (t ++ drop r l)) e ∙ sym (b .holds))

@@ -2,10 +2,8 @@
 use crate::lines;
 use calibrate::FitAnswer;
 ghost use mathlib.Core.Path.{_≡_};
-ghost use mathlib.Core.Bool.{_&&_};
 ghost use mathlib.Core.List.{_++_};
 ghost use Prim.Native.Nat.{_+_, _*_, _/_, _≤_};
-ghost use lib.Dec.{leb};
 ghost use lib.ListN.{length};
 ghost use Rattle.text.specs.Place.{Wrote};
 ghost use Rattle.text.specs.Lines.{cappedLine, pointLines};

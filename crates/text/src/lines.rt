@@ -6,7 +6,6 @@ use crate::digits::put_text;
 use calibrate::FitAnswer;
 use search::Counts;
 use slice::SviSlice;
-ghost use mathlib.Core.Path.{_≡_};
 ghost use Prim.Native.Nat.{_+_, _*_, _/_, _<_, _≤_};
 ghost use lib.ListN.{length};
 ghost use Rattle.text.specs.Place.{Wrote};

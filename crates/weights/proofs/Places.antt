@@ -56,12 +56,12 @@ passing-end n x carry a out l h =
 
 -- ---- the sort: m weights, from the last on, are in place
 
-pub insert-length : (x : Float) (ys : List Float) → length (insertOf x ys) ≡ suc (length ys)
+insert-length : (x : Float) (ys : List Float) → length (insertOf x ys) ≡ suc (length ys)
 unfolding insertOf
 insert-length x [] = refl
 insert-length x (y ∷ ys) = ap suc (insert-length (greater x y) ys)
 
-pub sort-length : (ws : List Float) → length (sortOf ws) ≡ length ws
+sort-length : (ws : List Float) → length (sortOf ws) ≡ length ws
 unfolding sortOf
 sort-length [] = refl
 sort-length (w ∷ ws) = insert-length w (sortOf ws) ∙ ap suc (sort-length ws)
@@ -115,13 +115,13 @@ scale-end f ws room a i h inv =
 
 -- ---- what stands behind a list does not count
 
-pub mid-front : (n : ℕ) (l room : List Float) → length l ≡ n → 1 ≤ n → midOf n (atFront l room) ≡ midOf n l
+mid-front : (n : ℕ) (l room : List Float) → length l ≡ n → 1 ≤ n → midOf n (atFront l room) ≡ midOf n l
 unfolding midOf
 mid-front n l room e h =
     let r = drop (length l) room in
     rw (List·getD-append l r nan (n / 2 - 1) (omega arith), List·getD-append l r nan (n / 2) (omega arith))
 
-pub good-front : (n : ℕ) (l room : List Float) → length l ≡ n → goodFirst n (atFront l room) ≡ allGood l
+good-front : (n : ℕ) (l room : List Float) → length l ≡ n → goodFirst n (atFront l room) ≡ allGood l
 unfolding allGood
 good-front n l room e =
     for-same (λ (i : ℕ) (b : Bool). b && positive (at (atFront l room) i)) (λ (i : ℕ) (b : Bool). b && positive (at l i)) n
@@ -129,7 +129,7 @@ good-front n l room e =
     ∙ ap (λ (k : ℕ). goodFirst k l) (sym e)
 
 -- a list written over one of its length
-pub over-front : (l s room : List Float) → length l ≡ length s → atFront l (atFront s room) ≡ atFront l room
+over-front : (l s room : List Float) → length l ≡ length s → atFront l (atFront s room) ≡ atFront l room
 over-front l s room e = ap (λ (r : List Float). l ++ r) (drop-at s (drop (length s) room) (length l) (sym e) ∙ ap (λ (k : ℕ). drop k room) (sym e))
 
 -- ---- step 3 as the code makes it: the room with the sorted weights, then with the scaled ones

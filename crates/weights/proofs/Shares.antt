@@ -24,10 +24,6 @@ use Rattle.weights.specs.Weights.{allGood, topOf, scaleOne, scaledOf, ca
 abbrev over : Float → Float → Float
 over x y = div binary64 x y
 
-T-is : (b : Bool) → T b → b ≡ true
-T-is true h = refl
-T-is false h = absurd h
-
 one-is : round binary64 false 1 1 ≡ one
 unfolding round ofBits
 one-is = refl

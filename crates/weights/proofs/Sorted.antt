@@ -44,7 +44,7 @@ unfolding insertOf Each
 each-insert P x [] p h = (p, h)
 each-insert P x (y ∷ ys) p h = (cond-ind P (lt x y) p (h .0), each-insert P (greater x y) ys (cond-ind P (lt x y) (h .0) p) (h .1))
 
-pub each-sort : (P : Float → Type 0) (ws : List Float) → Each P ws → Each P (sortOf ws)
+each-sort : (P : Float → Type 0) (ws : List Float) → Each P ws → Each P (sortOf ws)
 unfolding sortOf Each
 each-sort P [] h = tt
 each-sort P (w ∷ ws) h = each-insert P w (sortOf ws) (h .0) (each-sort P ws (h .1))

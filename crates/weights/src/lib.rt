@@ -3,7 +3,6 @@ ghost use mathlib.Core.Path.{_≡_};
 ghost use mathlib.Core.List.{map, _++_};
 ghost use Prim.Native.Nat.{_+_, _≤_, _<_};
 ghost use lib.ListN.{length, take, drop};
-ghost use Rattle.laws.specs.Floats.{positive};
 ghost use Rattle.laws.specs.Room.{atFront};
 ghost use Rattle.weights.specs.Weights.{insertOf, sortOf, midOf, topOf, scaleOne, goodFirst, weighed, weightsOf};
 

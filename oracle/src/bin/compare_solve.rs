@@ -1,72 +1,85 @@
 //! The solver and single cells of the search: the port beside the Rust, on systems where pivots tie and on data where faces do.
 
+use oracle::counted::calibrate::{FitConfig, SliceObservation, inner};
+use oracle::port::cells::{self as port, Limits};
 use oracle::random::Random;
-use oracle::port::cells as port;
-use oracle::{counted, counts, plain, rule, work};
+use oracle::{counts, plain, rule, work};
 
 const HOW: &str = "oracle/compare-solve [--seed S] [--count N] [--jobs J]
     N systems of 1 to 6 unknowns and a tenth as many cells; exit status 1 where something differs";
 
-/// A system: mostly small whole numbers, so that pivots tie and eliminate to zero; now and then anything.
-fn system(r: &mut Random) -> (usize, Vec<f64>, Vec<f64>, f64) {
-    let n = r.from_to(1, 6);
-    let kind = r.below(6);
+/// A system of n unknowns in room for six: mostly small whole numbers, so that pivots tie and eliminate to zero; now and then anything.
+fn system(r: &mut Random, n: usize) -> ([f64; 36], [f64; 6], f64) {
+    let kind = r.below(9);
     let entry = |r: &mut Random| match kind {
         0 => r.one_of(&[0.0, 1.0, -1.0]),
         1 => r.one_of(&[0.0, -0.0, 1.0, -1.0, 2.0, -2.0, 0.5]),
         2 => r.normal(),
-        3 => r.decades(-150, 150) * r.one_of(&[1.0, -1.0]),
+        3 => r.decades(-300, 300) * r.one_of(&[1.0, -1.0]),
         4 => if r.once_in(8) { r.special() } else { r.from_to(0, 4) as f64 - 2.0 },
-        _ => r.from_to(0, 16) as f64 * 0.25 - 2.0,
+        5 => r.from_to(0, 16) as f64 * 0.25 - 2.0,
+        6 => r.one_of(&[1.0, -1.0]),
+        7 => f64::from_bits(r.word() >> r.one_of(&[12, 61])) * r.one_of(&[1.0, -1.0]), // subnormal
+        _ => r.special(),
     };
-    let mut m: Vec<f64> = (0..n * n).map(|_| entry(r)).collect();
+    let mut m: [f64; 36] = std::array::from_fn(|_| entry(r));
     if r.once_in(2) {
         // As a KKT system: symmetric, its last corner zero.
         for i in 0..n {
             for j in 0..i {
-                m[i * n + j] = m[j * n + i];
+                m[i * 6 + j] = m[j * 6 + i];
             }
         }
         for i in 3..n {
-            for j in 3..n {
-                m[i * n + j] = 0.0;
-            }
+            m[i * 6 + 3..i * 6 + n].fill(0.0);
         }
     }
-    let rhs = (0..n).map(|_| entry(r)).collect();
+    if r.once_in(16) {
+        let row = r.below(n);
+        m[row * 6..row * 6 + 6].fill(0.0);
+    }
+    let rhs = std::array::from_fn(|_| entry(r));
     let tol = match r.below(8) {
-        0 => r.one_of(&[0.5, 0.25, 1.0, 0.125]),
+        0 => r.one_of(&[0.0, 0.5, 0.25, 1.0, 0.125]),
         1 => r.special(),
         _ => 1e-12,
     };
-    (n, m, rhs, tol)
+    (m, rhs, tol)
+}
+
+/// What the port wrote of six unknowns, where it says that it solved them.
+fn solution(m: &[f64; 36], rhs: &[f64; 6], n: usize, tol: f64) -> (bool, [f64; 6]) {
+    let mut x = [7.0; 6];
+    (port::port_solve(m, rhs, n, tol, &mut x), x)
 }
 
 fn solved(r: &mut Random) -> (bool, Option<String>) {
-    let (n, m, rhs, tol) = system(r);
-    let rows = m.chunks(n).map(<[f64]>::to_vec).collect();
-    let rust = plain::calibrate::solve_linear(rows, rhs.clone(), tol);
-    let port = port::solve(n, &m, &rhs, tol);
-    let same = match (&port, &rust) {
-        (Some(p), Some(x)) => p.iter().zip(x).all(|(a, b)| rule::same_float(*a, *b)),
-        (None, None) => true,
-        _ => false,
-    };
-    let wrong = (!same).then(|| format!("system {n} {m:?} {rhs:?} {tol:e}: port {port:?} rust {rust:?}"));
+    let n = r.from_to(1, 6);
+    let (m, rhs, tol) = system(r, n);
+    let rows = m.chunks(6).take(n).map(|row| row[..n].to_vec()).collect();
+    let rust = plain::calibrate::solve_linear(rows, rhs[..n].to_vec(), tol);
+    let (ok, x) = solution(&m, &rhs, n, tol);
+    let found = rust.as_deref().unwrap_or(&[]);
+    // Beyond the solution, and where there is none, the port leaves zeros.
+    let same = ok == rust.is_some() && x.iter().zip(found).all(|(a, b)| rule::same_float(*a, *b)) && x[found.len()..].iter().all(|v| v.to_bits() == 0);
+    let wrong = (!same).then(|| format!("system {n} {m:?} {rhs:?} {tol:e}: port {ok} {x:?} rust {rust:?}"));
     (rust.is_some(), wrong)
 }
 
-/// Observations of a cell: a lattice or a smile; weights at most 1.
+/// Observations of a cell: a lattice, a smile with noise, any size, or with values that are not finite. Weights at most 1.
 fn observations(r: &mut Random) -> Vec<[f64; 3]> {
-    let lattice = r.once_in(2);
+    let kind = r.below(8);
     let (level, bend) = (r.decades(-4, 0), r.between(-0.5, 3.0));
-    (0..r.from_to(1, 12))
+    let count = if r.once_in(64) { 256 } else { r.from_to(1, 24) };
+    let anything = |r: &mut Random, v: f64| if r.once_in(6) { r.special() } else { v };
+    (0..count)
         .map(|_| {
-            if lattice {
-                [r.from_to(0, 8) as f64 - 4.0, r.below(5) as f64 * 0.25, r.one_of(&[1.0, 0.5, 0.25])]
-            } else {
-                let k = r.between(-1.0, 1.0);
-                [k, (level + bend * k * k * r.unit()).max(0.0), r.between(1e-3, 1.0)]
+            let k = r.between(-1.0, 1.0);
+            match kind {
+                0..4 => [r.from_to(0, 8) as f64 - 4.0, r.below(5) as f64 * 0.25, r.one_of(&[1.0, 0.5, 0.25])],
+                4 | 5 => [k, (level + bend * k * k * r.unit()).max(0.0), r.between(1e-3, 1.0)],
+                6 => [k * r.decades(-200, 200), r.decades(-300, 300), r.unit()],
+                _ => [anything(r, k), anything(r, level), anything(r, 1.0)],
             }
         })
         .collect()
@@ -74,23 +87,23 @@ fn observations(r: &mut Random) -> Vec<[f64; 3]> {
 
 fn cell(r: &mut Random) -> (bool, Option<String>) {
     let obs = observations(r);
+    let column = |i: usize| obs.iter().map(|o| o[i]).collect::<Vec<f64>>();
+    let (k, w, t) = (column(0), column(1), column(2));
     let a_min = r.one_of(&[1e-8, 1e-3, 0.25]);
-    let a_max = obs.iter().fold(a_min, |a: f64, o| a.max(o[1]));
+    let a_max = w.iter().fold(a_min, |a: f64, w| a.max(*w));
     let sigma = r.decades(-4, 2);
     let sigma = r.one_of(&[sigma, sigma, 1.0, 0.5, 1e9, 1e-200]);
     let m = if r.once_in(3) { 0.0 } else { r.between(-2.0, 2.0) };
-    let tol = [r.one_of(&[1e-12, 1e-12, 0.25, 1e-3]), r.one_of(&[1e-12, 1e-12, 0.25, 1e-3])];
-    let config = counted::calibrate::FitConfig {
-        a_min,
-        pivot_tolerance: tol[0],
-        feasibility_tolerance: tol[1],
-        ..Default::default()
-    };
-    let data: Vec<_> = obs.iter().map(|o| counted::calibrate::SliceObservation::new(o[0], o[1], o[2]).expect("good")).collect();
+    let (m, sigma) = if r.once_in(64) { (r.special(), r.special()) } else { (m, sigma) };
+    let pivot_tolerance = r.one_of(&[1e-12, 1e-12, 0.25, 1e-3, 0.0, f64::NAN]);
+    let feasibility_tolerance = r.one_of(&[1e-12, 1e-12, 0.25, 1e-3, 0.0]);
+    let config = FitConfig { a_min, pivot_tolerance, feasibility_tolerance, ..Default::default() };
+    let data: Vec<_> = obs.iter().map(|&[k, w, weight]| SliceObservation { k, w, weight }).collect();
     counts::take();
-    let rust = counted::calibrate::inner(&data, m, sigma, a_max, &config);
+    let rust = inner(&data, m, sigma, a_max, &config);
     let faces = counts::take()[4] as usize;
-    let port = port::cell(&obs, [a_min, a_max, tol[0], tol[1]], m, sigma);
+    let limits = Limits { a_min, a_max, pivot_tolerance, feasibility_tolerance };
+    let port = port::cell(&k, &w, &t, limits, m, sigma);
     let same = port.faces == faces
         && match &rust {
             None => !port.some,
@@ -101,8 +114,24 @@ fn cell(r: &mut Random) -> (bool, Option<String>) {
                     && (0..7).all(|i| port.active[i] == c.active.contains(&i))
             }
         };
-    let wrong = (!same).then(|| format!("cell {obs:?} a_min {a_min:e} a_max {a_max:e} tolerances {tol:?} m {m:e} sigma {sigma:e}: port {port:?} rust {rust:?} faces {faces}"));
+    let wrong = (!same).then(|| format!("cell {obs:?} {limits:?} m {m:e} sigma {sigma:e}: port {port:?} rust {rust:?} faces {faces}"));
     (rust.is_some(), wrong)
+}
+
+/// What only the port can be asked: sizes that it refuses, columns of unequal or too great length.
+fn out_of_range() -> usize {
+    let sizes = [0, 7, 8, usize::MAX].into_iter().filter(|n| solution(&[1.0; 36], &[1.0; 6], *n, 1e-12) != (false, [0.0; 6]));
+    let column = [0.0; 257];
+    let limits = Limits { a_min: 0.1, a_max: 1.0, pivot_tolerance: 1e-12, feasibility_tolerance: 1e-12 };
+    let lengths = [[257; 3], [5, 4, 5], [5, 5, 6]].into_iter().filter(|[k, w, t]| {
+        let c = port::cell(&column[..*k], &column[..*w], &column[..*t], limits, 0.0, 1.0);
+        c.some || c.faces != 0
+    });
+    let (sizes, lengths): (Vec<_>, Vec<_>) = (sizes.collect(), lengths.collect());
+    if !sizes.is_empty() || !lengths.is_empty() {
+        println!("not refused: systems of sizes {sizes:?}, columns of lengths {lengths:?}");
+    }
+    sizes.len() + lengths.len()
 }
 
 fn main() {
@@ -114,7 +143,7 @@ fn main() {
     if !words.rest.is_empty() {
         stop(format!("what is {}?", words.rest[0]));
     }
-    let mut different = 0;
+    let mut different = out_of_range();
     let mut run = |what: &'static str, count: usize, one: fn(&mut Random) -> (bool, Option<String>)| {
         let progress = work::Progress::new(what, count);
         let mut answered = 0;

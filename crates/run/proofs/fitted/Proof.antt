@@ -1,11 +1,9 @@
 use Rattle.run.proofs.Saying.{said, fit-refused, fit-accepted, same-accepted}
 use native.Mathlib.Omega.{arith}
-use Prim.Native.Nat.{ℕ, _+_, _*_, _≤_}
-use mathlib.Core.Path.{_≡_, refl, sym, ap, _∙_}
-use mathlib.Core.List.{List}
+use Prim.Native.Nat.{ℕ, _*_}
+use mathlib.Core.Path.{_≡_, sym, ap, _∙_}
 use lib.ListN.{length, take}
 use lib.Seq.{length-take-le}
-use lib.Ieee.{Float}
 use Rattle.weights.specs.Weights.{cappedOf}
 use Rattle.calibrate.specs.Fit.{residualsOf}
 use Rattle.run.proofs.Fronts.{front, front-fits}

@@ -1,10 +1,7 @@
 use Rattle.run.proofs.Saying.{said, answer-early, answer-fit, same-fit}
 use native.Mathlib.Omega.{arith}
-use Prim.Native.Nat.{ℕ, _+_, _*_, _≤_}
-use mathlib.Core.Path.{_≡_, refl, sym, ap, _∙_}
-use mathlib.Core.List.{List, map}
-use lib.ListN.{length, take, length-map}
-use lib.Ieee.{Float}
+use mathlib.Core.Path.{sym, _∙_}
+use lib.ListN.{length-map}
 use Rattle.house.specs.Check.{kOf, wOf, weightOf}
 use Rattle.house.specs.Taken.{keptOf}
 use Rattle.house.proofs.Taking.{taken-kept}

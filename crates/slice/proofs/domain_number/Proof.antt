@@ -1,7 +1,7 @@
 -- `slice::domain_number` meets its contract. Assumes nothing.
 use Rattle.laws.proofs.Choices.{if-true, if-false, is}
-use mathlib.Core.Path.{refl, _∙_}
-use lib.Ieee.{Float, lt}
+use mathlib.Core.Path.{refl}
+use lib.Ieee.{lt}
 use Rattle.laws.specs.Floats.{one}
 use Rattle.slice.specs.Slice.{domainNumber, leeBound}
 use borrow.Author.Needs.{needs}

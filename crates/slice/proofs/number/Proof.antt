@@ -1,7 +1,6 @@
 -- `slice::number` meets its contract. Assumes nothing.
 use Rattle.laws.proofs.Choices.{if-true, if-false, number-goes, number-no}
-use mathlib.Core.Path.{refl, _∙_}
-use mathlib.Core.Bool.{Bool}
+use mathlib.Core.Path.{refl}
 use Prim.Native.Nat.{ℕ}
 use Rattle.slice.specs.Slice.{numberOf}
 use borrow.Author.Needs.{needs}

@@ -1,12 +1,9 @@
 -- `diagnostics::grid::row` meets its contract. Assumes nothing.
-use Rattle.diagnostics.specs.Walk.{rowOf, rowTurn, seenOn, freshOf, standing, visitOf, State}
+use Rattle.diagnostics.specs.Walk.{rowOf, seenOn, freshOf, standing}
 use Rattle.laws.proofs.Loops.{again, ended}
-use mathlib.Core.Path.{_≡_, refl, ap, _∙_, sym}
-use Rattle.laws.specs.Loop.{for}
-use Prim.Native.Nat.{_+_, _*_, _-_, _^_, _≤_, _<_}
-use lib.ListN.{length}
+use mathlib.Core.Path.{refl, ap}
+use Prim.Native.Nat.{_-_}
 use Rattle.diagnostics.specs.declared.grid.Walk.{Walk}
-use Rattle.diagnostics.specs.declared.points.Seen.{Seen}
 use Rattle.diagnostics.proofs.Standing.{RowInv, visit-of, loop-from}
 use lib.ListN.{getD}
 use lib.Ieee.{nan}

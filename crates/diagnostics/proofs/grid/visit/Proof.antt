@@ -1,6 +1,6 @@
 -- `diagnostics::grid::visit` meets its contract. Assumes nothing.
 use Rattle.diagnostics.specs.Walk.{visitOf, goodOf, failedOf, standing, failureAt}
-use mathlib.Core.Path.{_≡_, ap, _∙_}
+use mathlib.Core.Path.{_≡_, ap}
 use lib.ListN.{length-set}
 use Rattle.diagnostics.proofs.Standing.{same-walk}
 use Rattle.diagnostics.specs.declared.grid.Walk.{Walk}

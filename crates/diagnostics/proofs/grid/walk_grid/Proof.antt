@@ -1,9 +1,8 @@
 -- `diagnostics::grid::walk_grid` meets its contract. Assumes nothing.
-use Rattle.diagnostics.specs.Walk.{walkOf, walkTurn, rowOf, seenOn, startOf, standing, State}
+use Rattle.diagnostics.specs.Walk.{walkOf, seenOn, startOf}
 use Rattle.laws.proofs.Loops.{again, ended}
-use mathlib.Core.Path.{_≡_, refl, ap, _∙_, sym}
-use Rattle.laws.specs.Loop.{for}
-use Prim.Native.Nat.{_+_, _*_, _-_, _^_, _≤_, _<_}
+use mathlib.Core.Path.{refl, ap}
+use Prim.Native.Nat.{_-_}
 use lib.ListN.{length}
 use Rattle.diagnostics.specs.declared.grid.Walk.{Walk}
 use Rattle.diagnostics.proofs.Standing.{WalkInv, row-room, loop-from}

@@ -1,7 +1,6 @@
 -- `diagnostics::report::diagnose_run` meets its contract. Assumes nothing.
 use Rattle.diagnostics.specs.Diagnostics.{diagnoseOf, outcome}
 use Rattle.laws.proofs.Choices.{number-goes, number-no}
-use mathlib.Core.Path.{_≡_, refl, _∙_}
 use Prim.Native.Nat.{ℕ}
 use lib.ListN.{length}
 use Rattle.diagnostics.specs.declared.report.Diagnosed.the-variants.{Refused}

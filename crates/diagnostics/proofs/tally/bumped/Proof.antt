@@ -2,7 +2,7 @@
 use Rattle.diagnostics.specs.Tally.{oneMore}
 use Rattle.laws.proofs.Choices.{if-true, if-false}
 use mathlib.Core.Path.{refl}
-use borrow.Author.Tests.{eq-eqb, ne-eqb, lt-ltb, le-ltb}
+use borrow.Author.Tests.{lt-ltb, le-ltb}
 use borrow.Author.Needs.{needs}
 use Rattle.diagnostics.proofs.tally.bumped.Statement.{statement}
 use Rattle.diagnostics.proofs.tally.bumped.Tie as tie

@@ -1,8 +1,5 @@
 -- `port::answers::diagnosed_answer` meets its contract. Assumes nothing.
-use Rattle.diagnostics.specs.declared.report.SurfaceDiagnostics.{SurfaceDiagnostics}
-use Rattle.port.specs.declared.answers.DiagnosedAnswer.{DiagnosedAnswer}
 use borrow.Author.Needs.{needs}
-use mathlib.Core.Path.{ap}
 use Rattle.port.proofs.answers.diagnosed_answer.Statement.{statement}
 use Rattle.port.proofs.answers.diagnosed_answer.Tie as tie
 

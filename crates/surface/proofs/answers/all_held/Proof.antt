@@ -3,7 +3,7 @@ use Rattle.surface.specs.Surface.{allHeld, allHeldTurn}
 use Rattle.laws.proofs.Loops.{again, ended}
 use mathlib.Core.Path.{_≡_, refl}
 use Rattle.laws.specs.Loop.{for}
-use Prim.Native.Nat.{_-_, _≤_}
+use Prim.Native.Nat.{_-_}
 use borrow.Author.Needs.{needs}
 use Rattle.surface.proofs.answers.all_held.Statement.{statement}
 use Rattle.surface.proofs.answers.all_held.Tie as tie

@@ -1,7 +1,6 @@
 -- `surface::answers::bracket_run` meets its contract. Assumes nothing.
 use Rattle.surface.specs.Surface.{bracketRun, bracketIn}
 use Rattle.laws.proofs.Choices.{number-goes, number-no}
-use mathlib.Core.Path.{_≡_, ap, _∙_}
 use Rattle.surface.specs.declared.types.Bracket.the-variants.{Refused}
 use borrow.Author.Needs.{needs}
 use Rattle.surface.proofs.answers.bracket_run.Statement.{statement}

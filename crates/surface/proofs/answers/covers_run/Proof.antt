@@ -2,7 +2,7 @@
 use Rattle.surface.specs.Surface.{coversRun, coveredBy}
 use Rattle.laws.proofs.Choices.{number-goes, number-no}
 use Rattle.surface.proofs.Passed.{entry-few}
-use mathlib.Core.Path.{_≡_, ap, _∙_}
+use mathlib.Core.Path.{ap, _∙_}
 use Rattle.surface.specs.declared.types.Covered.the-variants as covered
 use borrow.Author.Needs.{needs}
 use Rattle.surface.proofs.answers.covers_run.Statement.{statement}

@@ -1,5 +1,5 @@
 -- `surface::answers::region_in` meets its contract. Assumes nothing.
-use Rattle.surface.specs.Surface.{regionIn, regionBy}
+use Rattle.surface.specs.Surface.{regionBy}
 use Rattle.surface.proofs.Passed.{places}
 use mathlib.Core.Path.{_∙_, ap}
 use native.Mathlib.Omega.{arith}

@@ -1,7 +1,6 @@
 -- `surface::answers::region_run` meets its contract. Assumes nothing.
 use Rattle.surface.specs.Surface.{regionRun, bracketIn}
 use Rattle.laws.proofs.Choices.{number-goes, number-no}
-use mathlib.Core.Path.{_≡_, ap, _∙_}
 use Rattle.surface.specs.declared.types.Region.the-variants as region
 use borrow.Author.Needs.{needs}
 use Rattle.surface.proofs.answers.region_run.Statement.{statement}

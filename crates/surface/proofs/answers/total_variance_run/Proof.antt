@@ -1,7 +1,6 @@
 -- `surface::answers::total_variance_run` meets its contract. Assumes nothing.
 use Rattle.surface.specs.Surface.{totalRun}
 use Rattle.laws.proofs.Choices.{number-goes, number-no}
-use mathlib.Core.Path.{_≡_, ap, _∙_}
 use Rattle.point.specs.declared.Total.the-variants as total
 use borrow.Author.Needs.{needs}
 use Rattle.surface.proofs.answers.total_variance_run.Statement.{statement}

@@ -1,7 +1,5 @@
 -- `surface::answers::variance_in` meets its contract. Assumes nothing.
-use Rattle.surface.specs.Surface.{varianceIn}
 use Rattle.surface.proofs.Passed.{places}
-use mathlib.Core.Path.{_∙_, ap}
 use native.Mathlib.Omega.{arith}
 use borrow.Author.Needs.{needs}
 use Rattle.surface.proofs.answers.variance_in.Statement.{statement}

@@ -1,12 +1,9 @@
 -- `surface::axis::holds` meets its contract. Assumes nothing.
 use Rattle.surface.specs.Axis.{heldOf, heldTurn}
 use Rattle.laws.proofs.Loops.{again, ended}
-use mathlib.Core.Path.{_≡_, refl, ap, _∙_}
+use mathlib.Core.Path.{_≡_, refl}
 use Rattle.laws.specs.Loop.{for}
-use mathlib.Core.Bool.{_||_}
-use lib.Dec.{eqb}
-use lib.Ieee.{toBits, binary64}
-use Prim.Native.Nat.{_-_, _≤_}
+use Prim.Native.Nat.{_-_}
 use lib.ListN.{length}
 use borrow.Author.Needs.{needs}
 use Rattle.surface.proofs.axis.holds.Statement.{statement}

@@ -1,8 +1,8 @@
 -- `surface::axis::rising` meets its contract. Assumes nothing.
 use Rattle.surface.specs.Axis.{risingOf, risingTurn}
-use Rattle.laws.proofs.Choices.{number-goes, if-true, if-false}
+use Rattle.laws.proofs.Choices.{if-true, if-false}
 use Rattle.laws.proofs.Loops.{again, ended}
-use mathlib.Core.Path.{_≡_, refl, ap, _∙_, sym}
+use mathlib.Core.Path.{_≡_, refl, ap}
 use Rattle.laws.specs.Loop.{for}
 use borrow.Author.Tests.{eq-eqb, ne-eqb}
 use mathlib.Core.Bool.{Bool}

@@ -1,10 +1,7 @@
 -- `surface::lookup::lookup` meets its contract. Assumes nothing.
-use Rattle.surface.specs.Lookup.{lookupOf, insideOf, onNode}
-use Rattle.laws.proofs.Choices.{if-true, if-false, is}
-use mathlib.Core.Path.{refl, sym, ap, _∙_}
-use Prim.Native.Nat.{ℕ}
-use lib.Dec.{ltb}
-use borrow.Author.Tests.{eq-eqb, ne-eqb, lt-ltb, le-ltb}
+use Rattle.surface.specs.Lookup.{lookupOf}
+use Rattle.laws.proofs.Choices.{if-true, if-false}
+use borrow.Author.Tests.{lt-ltb, le-ltb}
 use borrow.Author.Needs.{needs}
 use Rattle.surface.proofs.lookup.lookup.Statement.{statement}
 use Rattle.surface.proofs.lookup.lookup.Tie as tie

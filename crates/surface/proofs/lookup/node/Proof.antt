@@ -3,7 +3,7 @@ use Rattle.surface.specs.Lookup.{nodeOf, nearAt}
 use Rattle.laws.proofs.Loops.{first-here, first-on, first-none}
 use mathlib.Core.Path.{_≡_, refl, sym, _∙_}
 use Rattle.laws.specs.Loop.{first}
-use Prim.Native.Nat.{_-_, _≤_}
+use Prim.Native.Nat.{_-_}
 use borrow.Author.Needs.{needs}
 use Rattle.surface.proofs.lookup.node.Statement.{statement}
 use Rattle.surface.proofs.lookup.node.Tie as tie

@@ -2,7 +2,7 @@
 use Rattle.surface.specs.Lookup.{onNode}
 use Rattle.laws.proofs.Choices.{if-true, if-false}
 use mathlib.Core.Path.{refl}
-use borrow.Author.Tests.{eq-eqb, ne-eqb, lt-ltb, le-ltb}
+use borrow.Author.Tests.{eq-eqb, ne-eqb}
 use borrow.Author.Needs.{needs}
 use Rattle.surface.proofs.lookup.on_node.Statement.{statement}
 use Rattle.surface.proofs.lookup.on_node.Tie as tie

@@ -1,6 +1,6 @@
 -- `surface::lookup::tolerances` meets its contract. Assumes nothing.
 use mathlib.Core.Path.{_≡_, refl, ap}
-use Prim.Native.Nat.{_-_, _≤_}
+use Prim.Native.Nat.{_-_}
 use lib.Ieee.{Float}
 use lib.ListN.{set, replicate}
 use borrow.Author.Needs.{needs}

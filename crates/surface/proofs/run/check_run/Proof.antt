@@ -3,7 +3,7 @@ use Rattle.surface.specs.Runs.{checkRun}
 use Rattle.laws.proofs.Choices.{if-true, if-false, number-goes, number-no}
 use mathlib.Core.Path.{refl}
 use Prim.Native.Nat.{ℕ}
-use borrow.Author.Tests.{eq-eqb, ne-eqb, lt-ltb, le-ltb}
+use borrow.Author.Tests.{lt-ltb, le-ltb}
 use borrow.Author.Needs.{needs}
 use Rattle.surface.proofs.run.check_run.Statement.{statement}
 use Rattle.surface.proofs.run.check_run.Tie as tie

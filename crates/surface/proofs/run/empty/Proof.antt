@@ -6,7 +6,6 @@ use Rattle.slice.specs.declared.SviSlice.{SviSlice}
 use Rattle.surface.specs.Runs.{pad}
 use Rattle.surface.proofs.run.empty.Statement.{statement}
 use Rattle.surface.proofs.run.empty.Tie as tie
-use Rattle.surface.specs.declared.types.Run.{Run}
 
 returns : tie.Need-returns
 unfolding pad

@@ -3,8 +3,6 @@ use borrow.Author.Needs.{needs}
 use borrow.Author.Tests.{lt-ltb, le-ltb}
 use Rattle.surface.proofs.run.push.Statement.{statement}
 use Rattle.surface.proofs.run.push.Tie as tie
-use Rattle.surface.proofs.run.push.Reads as reads
-use Rattle.surface.proofs.run.push.Lts as lts
 
 mul-recs : tie.Need-mul-recs
 mul-recs c = search needs

@@ -1,9 +1,9 @@
 -- `surface::run::taus_of` meets its contract. Assumes nothing.
 use Rattle.surface.specs.Runs.{tausOf, tauTurn}
 use Rattle.laws.proofs.Loops.{again, ended}
-use mathlib.Core.Path.{_≡_, refl, ap, _∙_}
+use mathlib.Core.Path.{_≡_, refl}
 use Rattle.laws.specs.Loop.{for}
-use Prim.Native.Nat.{_-_, _≤_}
+use Prim.Native.Nat.{_-_}
 use borrow.Author.Needs.{needs}
 use Rattle.surface.proofs.run.taus_of.Statement.{statement}
 use Rattle.surface.proofs.run.taus_of.Tie as tie
