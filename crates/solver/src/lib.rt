@@ -5,7 +5,7 @@ ghost use Prim.Native.Nat.{_+_, _≤_, _<_};
 ghost use mathlib.Core.Bool.{true, false, cond};
 ghost use lib.Ieee.{isNan, lt};
 ghost use Rattle.laws.specs.Floats.{+0};
-ghost use Rattle.solver.specs.Solve.{after, standing, ranked, rowScaleOf, scaleOf, pivotRowOf, rowOf, swapRows, swapped, minusOf, factorOf, rowDone, belowOf, columnOf, eliminatedOf, tailOf, backOf, scaledOf, solveOf};
+ghost use Rattle.solver.specs.Solve.{after, standing, ranked, rowScaleOf, scaleOf, pivotRowOf, rowOf, swapRows, swapped, minusOf, factorOf, rowDone, belowOf, columnOf, eliminatedOf, tailOf, backOf, scaledOf, solveOf, leftBy, leftOf};
 
 // The unknowns, and whether there is a solution; what is no unknown is 0. The six numbers come first: behind the bool they would be copied from an odd address.
 pub struct Solved {
@@ -210,6 +210,7 @@ fn back(m: &[f64; 36], rhs: &[f64; 6], n: usize) -> Solved
 fn scaled(m: &mut [f64; 36], rhs: &mut [f64; 6], n: usize, tol: f64, scale: f64) -> Solved
     requires { ⌜ n ≤ 6 ⌝ }
     ensures { λ r. ⌜ r ≡ scaledOf n (now (m .entry)) (now (rhs .entry)) tol scale ⌝ }
+    ensures { λ r. ⌜ (now (m .exit) ≡ leftBy n (now (m .entry)) (now (rhs .entry)) tol scale .m) × (now (rhs .exit) ≡ leftBy n (now (m .entry)) (now (rhs .entry)) tol scale .rhs) ⌝ }
 {
     if bits::is_finite(scale) & (scale > 0.0) {
         if eliminate(m, rhs, n, tol * scale) {
@@ -223,18 +224,26 @@ fn scaled(m: &mut [f64; 36], rhs: &mut [f64; 6], n: usize, tol: f64, scale: f64)
 }
 
 // m x = rhs in n unknowns, or a refusal: n above 6, no positive finite scale, a pivot of at most tol times the scale, or a value that is not finite.
+// The elimination works in the caller's arrays.
+pub fn solve_lent(m: &mut [f64; 36], rhs: &mut [f64; 6], n: usize, tol: f64) -> Solved
+    ensures { λ r. ⌜ r ≡ solveOf n (now (m .entry)) (now (rhs .entry)) tol ⌝ }
+    ensures { λ r. ⌜ (now (m .exit) ≡ leftOf n (now (m .entry)) (now (rhs .entry)) tol .m) × (now (rhs .exit) ≡ leftOf n (now (m .entry)) (now (rhs .entry)) tol .rhs) ⌝ }
+{
+    if n <= 6 {
+        let scale = scale_of(m, n);
+        return scaled(m, rhs, n, tol, scale);
+    }
+    Solved {
+        x: [0.0; 6],
+        ok: false,
+    }
+}
+
+// The same of arrays by value.
 pub fn solve(m: [f64; 36], rhs: [f64; 6], n: usize, tol: f64) -> Solved
     ensures { λ r. ⌜ r ≡ solveOf n m rhs tol ⌝ }
 {
-    if n <= 6 {
-        let mut a = m;
-        let mut b = rhs;
-        let scale = scale_of(&a, n);
-        scaled(&mut a, &mut b, n, tol, scale)
-    } else {
-        Solved {
-            ok: false,
-            x: [0.0; 6],
-        }
-    }
+    let mut a = m;
+    let mut b = rhs;
+    solve_lent(&mut a, &mut b, n, tol)
 }
