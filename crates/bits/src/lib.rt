@@ -28,7 +28,7 @@ pub fn pick_count(c: bool, a: usize, b: usize) -> usize
 }
 
 // |x|, but for -0, which stays.
-fn unsigned(x: f64) -> f64
+pub fn unsigned(x: f64) -> f64
     ensures { λ r. ⌜ r ≡ unsignedOf x ⌝ }
 {
     if x < 0.0 { -x } else { x }

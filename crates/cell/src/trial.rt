@@ -24,29 +24,25 @@ fn slot(m: &mut [f64; 36], g: &[f64; 21], u: usize, c: usize, r: usize)
     }
 }
 
-fn kkt(base: &[f64; 36], g: &[f64; 21], u: usize, f: Face) -> [f64; 36]
+fn kkt(m: &mut [f64; 36], g: &[f64; 21], u: usize, f: Face)
     requires { ⌜ (u ≤ 3) × Good 3 7 f ⌝ }
-    ensures { λ r. ⌜ r ≡ kktOf (now (base .entry)) (now (g .entry)) u f ⌝ }
+    ensures { λ r. ⌜ now (m .exit) ≡ kktOf (now (m .entry)) (now (g .entry)) u f ⌝ }
 {
-    let mut m = *base;
     for s in 0..f.size {
         let c = crate::order::member(f, s);
-        slot(&mut m, g, u, c, u + s);
+        slot(m, g, u, c, u + s);
     }
-    m
 }
 
-fn rhs(right: &[f64; 6], h: &[f64; 7], u: usize, f: Face) -> [f64; 6]
+fn rhs(t: &mut [f64; 6], h: &[f64; 7], u: usize, f: Face)
     requires { ⌜ (u ≤ 3) × Good 3 7 f ⌝ }
-    ensures { λ r. ⌜ r ≡ rhsOf (now (right .entry)) (now (h .entry)) u f ⌝ }
+    ensures { λ r. ⌜ now (t .exit) ≡ rhsOf (now (t .entry)) (now (h .entry)) u f ⌝ }
 {
-    let mut t = *right;
     for s in 0..f.size {
         let c = crate::order::member(f, s);
         let k = u + s;
         t[k] = h[c];
     }
-    t
 }
 
 fn solution(
@@ -61,9 +57,11 @@ fn solution(
     requires { ⌜ (u ≤ 3) × Good 3 7 f ⌝ }
     ensures { λ r. ⌜ r ≡ solutionOf (now (base .entry)) (now (right .entry)) (now (g .entry)) (now (h .entry)) u pivot f ⌝ }
 {
-    let m = kkt(base, g, u, f);
-    let r = rhs(right, h, u, f);
-    solver::solve(m, r, u + f.size, pivot)
+    let mut m = *base;
+    kkt(&mut m, g, u, f);
+    let mut r = *right;
+    rhs(&mut r, h, u, f);
+    solver::solve_lent(&mut m, &mut r, u + f.size, pivot)
 }
 
 fn widen(x: &[f64; 6]) -> [f64; 3]

@@ -1,18 +1,117 @@
--- Where the code takes a shorter way than the definition: the max of numbers that are no NaN, and a row that changes places with itself. Assumes nothing.
-use mathlib.Core.Path.{_≡_, refl, sym, ap, ap₂, _∙_}
-use mathlib.Core.Bool.{Bool, true, false, _||_, cond}
+-- Where the code takes a shorter way than the definition: magnitudes that keep the sign of a -0, the scale by rows, and a row that changes places with itself. Assumes nothing.
+use mathlib.Core.Path.{_≡_, refl, sym, ap, ap₂, subst, _∙_}
+use mathlib.Core.Bool.{Bool, true, false, not, _&&_, _||_, cond, Bool·beq}
 use mathlib.Core.List.{List}
-use Prim.Native.Nat.{ℕ, _+_, _*_}
+use Prim.Native.Nat.{ℕ, zero, suc, _+_, _-_, _*_}
+use native.Mathlib.Nat.{zero-mul, mul-pos, add-zero, zero-add}
+use native.Mathlib.Omega.{arith}
+use lib.Dec.{T, ltb, eqb}
+use lib.IntN.{ℤ}
 use lib.Seq.{set-getD}
 use lib.ListN.{set}
-use lib.Ieee.{Float, nan, inf, fin, lt, ne, isNan}
-use Rattle.laws.specs.Floats.{at, maxOf}
-use Rattle.laws.proofs.Choices.{false-true}
-use Rattle.laws.proofs.Floats.{nan-test}
+use lib.Ieee.{Float, nan, inf, fin, up, down, lt, le, eq, neg, isNan, ofBits}
+use lib.Ieee.Fits.{up-pos}
+use lib.Ieee.Bits.{is-true}
+use borrow.Author.Tests.{ltb-true, ltb-false, le-ltb}
+use Rattle.laws.specs.Loop.{turns}
+use Rattle.laws.specs.Floats.{+0, at, absOf, maxOf}
+use Rattle.laws.proofs.Choices.{false-true, cond-test}
+use Rattle.laws.proofs.Floats.{nan-test, unsigned}
 use Rattle.laws.proofs.Loops.{for-keeps}
-use Rattle.solver.specs.Solve.{System, after, exchange, swapRows, swapped}
+use Rattle.laws.proofs.Order.{lt-le-trans, lt-or, lt→le}
+use Rattle.solver.specs.Solve.{System, after, entry, ranked, rowScaleOf, exchange, swapRows, swapped}
 
--- ---- the max
+-- ---- a magnitude that keeps the sign of a -0 compares as the magnitude
+
+-- a product with a zero in front
+none : (b c : ℕ) → 0 * b * c ≡ 0
+none b c = ap (λ (x : ℕ). x * c) (zero-mul b) ∙ zero-mul c
+
+-- what holds of equal ones, and of the two zeros, holds of both forms of a magnitude
+unsigned-ind : (P : Float → Float → Type 0) → ((y : Float) → P y y) → ((e : ℤ) → P (fin true 0 e) (fin false 0 e)) → (x : Float) → P (unsigned x) (absOf x)
+unfolding lt neg absOf ofBits
+unsigned-ind P p q nan = p nan
+unsigned-ind P p q (inf true) = p (inf false)
+unsigned-ind P p q (inf false) = p (inf false)
+unsigned-ind P p q (fin false m e) = go (lt (fin false m e) +0) refl
+  where
+    go : (b : Bool) → lt (fin false m e) +0 ≡ b → P (cond b (fin true m e) (fin false m e)) (fin false m e)
+    go true h = absurd (omega (arith, ltb-true (m * up e * 1) (0 * down e) h, zero-mul (down e)))
+    go false h = p (fin false m e)
+unsigned-ind P p q (fin true zero e) = go (lt (fin true zero e) +0)
+  where
+    go : (b : Bool) → P (cond b (fin false 0 e) (fin true 0 e)) (fin false 0 e)
+    go true = p (fin false 0 e)
+    go false = q e
+unsigned-ind P p q (fin true (suc m) e) = go (lt (fin true (suc m) e) +0) refl
+  where
+    go : (b : Bool) → lt (fin true (suc m) e) +0 ≡ b → P (cond b (fin false (suc m) e) (fin true (suc m) e)) (fin false (suc m) e)
+    go true h = p (fin false (suc m) e)
+    go false h = absurd (omega (arith, ltb-false 0 (suc m * up e * 1 + 0 * down e) h, zero-mul (down e), mul-pos {m = suc m} {n = up e} (omega arith) (up-pos e)))
+
+lt-zero : (e : ℤ) (z : Float) → lt (fin true 0 e) z ≡ lt (fin false 0 e) z
+unfolding lt
+lt-zero e nan = refl
+lt-zero e (inf t) = refl
+lt-zero e (fin false n d) = rw (none (up e) (down d)) (ap (ltb 0) (zero-add (n * up d * down e)))
+lt-zero e (fin true n d) = rw (none (up e) (down d)) (le-ltb (n * up d * down e) 0 (omega arith))
+
+zero-lt : (e : ℤ) (z : Float) → lt z (fin true 0 e) ≡ lt z (fin false 0 e)
+unfolding lt
+zero-lt e nan = refl
+zero-lt e (inf t) = refl
+zero-lt e (fin false n d) = rw (none (up e) (down d)) (sym (le-ltb (n * up d * down e) 0 (omega arith)))
+zero-lt e (fin true n d) = rw (none (up e) (down d)) (ap (ltb 0) (sym (add-zero (n * up d * down e))))
+
+eq-zero : (e : ℤ) (z : Float) → eq (fin true 0 e) z ≡ eq (fin false 0 e) z
+unfolding eq
+eq-zero e nan = refl
+eq-zero e (inf t) = refl
+eq-zero e (fin false n d) = rw (none (up e) (down d)) (refl)
+eq-zero e (fin true n d) = rw (none (up e) (down d)) (refl)
+
+zero-eq : (e : ℤ) (z : Float) → eq z (fin true 0 e) ≡ eq z (fin false 0 e)
+unfolding eq
+zero-eq e nan = refl
+zero-eq e (inf t) = refl
+zero-eq e (fin s n d) = rw (none (up e) (down d)) (go s (eqb (n * up d * down e) 0))
+  where
+    go : (s b : Bool) → (b && (Bool·beq s true || b)) ≡ (b && (Bool·beq s false || b))
+    go true true = refl
+    go true false = refl
+    go false true = refl
+    go false false = refl
+
+pub le-unsigned : (x z : Float) → le (unsigned x) z ≡ le (absOf x) z
+unfolding le
+le-unsigned x z = unsigned-ind (λ (a b : Float). le a z ≡ le b z) (λ y. refl) (λ e. ap₂ _||_ (lt-zero e z) (eq-zero e z)) x
+
+unsigned-le : (z x : Float) → le z (unsigned x) ≡ le z (absOf x)
+unfolding le
+unsigned-le z x = unsigned-ind (λ (a b : Float). le z a ≡ le z b) (λ y. refl) (λ e. ap₂ _||_ (zero-lt e z) (zero-eq e z)) x
+
+nan-unsigned : (x : Float) → isNan (unsigned x) ≡ isNan (absOf x)
+unfolding isNan
+nan-unsigned x = unsigned-ind (λ (a b : Float). isNan a ≡ isNan b) (λ y. refl) (λ e. refl) x
+
+pub ranked-unsigned : (x y : Float) → ranked (unsigned x) (unsigned y) ≡ ranked (absOf x) (absOf y)
+unfolding ranked
+ranked-unsigned x y = ap₂ _||_ (nan-unsigned y) (le-unsigned x (unsigned y) ∙ unsigned-le (absOf x) y)
+
+-- ---- the scale, row by row
+
+-- the code's max: the first of the largest
+abbrev larger : Float → Float → Float
+larger a b = cond (lt a b) b a
+
+-- a number that is not below zero
+pub record Sized (a : Float) : Type 0 where
+  pub number : isNan a ≡ false
+  pub above : lt a +0 ≡ false
+
+pub zero-sized : Sized +0
+unfolding isNan lt ofBits
+zero-sized = record { number = refl; above = refl }
 
 below-number : (a b : Float) → lt a b ≡ true → isNan b ≡ false
 unfolding lt isNan
@@ -22,20 +121,91 @@ below-number (fin s m e) nan h = false-true h
 below-number a (inf s) h = refl
 below-number a (fin s m e) h = refl
 
+abs-above : (x : Float) → lt (absOf x) +0 ≡ false
+unfolding lt absOf ofBits
+abs-above nan = refl
+abs-above (inf s) = refl
+abs-above (fin s m e) = le-ltb (m * up e * 1) (0 * down e) (omega (arith, zero-mul (down e)))
+
+-- no zero is above a number that is not below zero
+not-below-zero : (a : Float) (e : ℤ) → lt a +0 ≡ false → lt a (fin true 0 e) ≡ false
+unfolding lt ofBits
+not-below-zero nan e h = refl
+not-below-zero (inf s) e h = h
+not-below-zero (fin false m d) e h = refl
+not-below-zero (fin true m d) e h =
+    let z : m * up d ≡ 0 = omega (arith, ltb-false 0 (m * up d * 1 + 0 * down d) h) in
+    rw (none (up e) (down d), z, zero-mul (down e)) refl
+
 or-false : (t : Bool) → (t || false) ≡ t
 or-false true = refl
 or-false false = refl
 
-pub larger-max : (a b : Float) → isNan a ≡ false → cond (lt a b) b a ≡ maxOf a b
+larger-max : (a b : Float) → isNan a ≡ false → larger a b ≡ maxOf a b
 unfolding maxOf
 larger-max a b h = sym (ap (λ (t : Bool). cond (lt a b || t) b a) (nan-test a ∙ h) ∙ ap (λ (t : Bool). cond t b a) (or-false (lt a b)))
 
-pub larger-number : (a b : Float) → isNan a ≡ false → isNan (cond (lt a b) b a) ≡ false
-larger-number a b h = go (lt a b) refl
+-- one entry: the code's step is the definition's, and keeps the number sized
+pub larger-step : (a x : Float) → Sized a → larger a (unsigned x) ≡ maxOf a (absOf x)
+larger-step a x s =
+    unsigned-ind (λ (u v : Float). larger a u ≡ larger a v) (λ y. refl)
+    (λ e. ap (λ (t : Bool). cond t (fin true 0 e) a) (not-below-zero a e (s .above)) ∙ sym (ap (λ (t : Bool). cond t (fin false 0 e) a) (sym (zero-lt e a) ∙ not-below-zero a e (s .above))))
+    x
+    ∙ larger-max a (absOf x) (s .number)
+
+larger-sized : (a b : Float) → Sized a → lt b +0 ≡ false → Sized (larger a b)
+larger-sized a b s h = cond-test Sized (lt a b) (λ l. record { number = below-number a b l; above = h }) (λ l. s)
+
+pub step-sized : (a x : Float) → Sized a → Sized (maxOf a (absOf x))
+step-sized a x s = subst Sized (larger-max a (absOf x) (s .number)) (larger-sized a (absOf x) s (abs-above x))
+
+pub both-sized : (a b : Float) → Sized a → Sized b → Sized (larger a b)
+both-sized a b s t = larger-sized a b s (t .above)
+
+-- what is at least as large as something is not below what that is not below
+not-lt-trans : (a b c : Float) → isNan b ≡ false → lt a b ≡ false → lt b c ≡ false → lt a c ≡ false
+not-lt-trans a b c n h k = go (lt a c) refl
   where
-    go : (t : Bool) → lt a b ≡ t → isNan (cond t b a) ≡ false
-    go true e = below-number a b e
-    go false e = h
+    go : (t : Bool) → lt a c ≡ t → lt a c ≡ false
+    go false e = e
+    go true e =
+        let c-number = subst (λ (t : Bool). T (not t)) (sym (below-number a c e)) tt in
+        let b-number = subst (λ (t : Bool). T (not t)) (sym n) tt in
+        let under = by (le c b) (lt-or c b c-number b-number) in
+        false-true (sym h ∙ is-true (lt a b) (lt-le-trans a c b (subst T (sym e) tt) under))
+      where
+        by : (t : Bool) → (T (not t) → T (lt b c)) → T t
+        by true f = tt
+        by false f = absurd (subst T k (f tt))
+
+larger-assoc : (a b c : Float) → isNan b ≡ false → larger (larger a b) c ≡ larger a (larger b c)
+larger-assoc a b c n = go (lt a b) (lt b c) refl refl
+  where
+    go : (s t : Bool) → lt a b ≡ s → lt b c ≡ t → larger (cond s b a) c ≡ larger a (cond t c b)
+    go true true h k = rw (k, is-true (lt a c) (lt-le-trans a b c (subst T (sym h) tt) (lt→le b c (subst T (sym k) tt)))) refl
+    go true false h k = rw (k, h) refl
+    go false true h k = refl
+    go false false h k = rw (not-lt-trans a b c n h k, h) refl
+
+-- a row from a on is the larger of a and the row from +0 on
+row-turns : (m : List Float) (i k j : ℕ) (a : Float) → Sized a → turns (λ j acc. maxOf acc (absOf (entry m i j))) k j a ≡ larger a (turns (λ j acc. maxOf acc (absOf (entry m i j))) k j +0)
+unfolding turns
+row-turns m i zero j a s = sym (ap (λ (t : Bool). cond t +0 a) (s .above))
+row-turns m i (suc k) j a s =
+    let y = absOf (entry m i j) in
+    let rest = turns (λ j acc. maxOf acc (absOf (entry m i j))) k (j + 1) +0 in
+    row-turns m i k (j + 1) (maxOf a y) (step-sized a (entry m i j) s)
+    ∙ ap (λ (b : Float). larger b rest) (sym (larger-max a y (s .number)) ∙ from-zero (lt +0 y) refl)
+    ∙ larger-assoc a (larger +0 y) rest (larger-sized +0 y zero-sized (abs-above (entry m i j)) .number)
+    ∙ ap (larger a) (ap (λ (b : Float). larger b rest) (larger-max +0 y (zero-sized .number)) ∙ sym (row-turns m i k (j + 1) (maxOf +0 y) (step-sized +0 (entry m i j) zero-sized)))
+  where
+    from-zero : (t : Bool) → lt +0 (absOf (entry m i j)) ≡ t → larger a (absOf (entry m i j)) ≡ larger a (cond t (absOf (entry m i j)) +0)
+    from-zero true h = refl
+    from-zero false h = rw (not-lt-trans a +0 (absOf (entry m i j)) (zero-sized .number) (s .above) h, s .above) refl
+
+pub row-from : (n : ℕ) (m : List Float) (i : ℕ) (a : Float) → Sized a → larger a (rowScaleOf n m i +0) ≡ rowScaleOf n m i a
+unfolding rowScaleOf
+row-from n m i a s = sym (row-turns m i (n - 0) 0 a s)
 
 -- ---- a row with itself
 

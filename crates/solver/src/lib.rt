@@ -2,33 +2,33 @@
 // The matrix is 6 by 6, row by row, of which the first n rows and columns count.
 ghost use mathlib.Core.Path.{_≡_};
 ghost use Prim.Native.Nat.{_+_, _≤_, _<_};
-ghost use mathlib.Core.Bool.{true, false};
-ghost use lib.Ieee.{isNan};
-ghost use Rattle.laws.specs.Floats.{maxOf};
-ghost use Rattle.solver.specs.Solve.{after, standing, ranked, rowScaleOf, scaleOf, pivotRowOf, rowOf, swapRows, swapped, minusOf, factorOf, rowDone, belowOf, columnOf, eliminatedOf, tailOf, backOf, scaledOf, solveOf};
+ghost use mathlib.Core.Bool.{true, false, cond};
+ghost use lib.Ieee.{isNan, lt};
+ghost use Rattle.laws.specs.Floats.{+0};
+ghost use Rattle.solver.specs.Solve.{after, standing, ranked, rowScaleOf, scaleOf, pivotRowOf, rowOf, swapRows, swapped, minusOf, factorOf, rowDone, belowOf, columnOf, eliminatedOf, tailOf, backOf, scaledOf, solveOf, leftBy, leftOf};
 
-// Whether there is a solution, and its unknowns; what is no unknown is 0.
+// The unknowns, and whether there is a solution; what is no unknown is 0. The six numbers come first: behind the bool they would be copied from an odd address.
 pub struct Solved {
-    pub ok: bool,
     pub x: [f64; 6],
+    pub ok: bool,
 }
 
 // Rust's max where a is no NaN: one test less.
 fn larger(a: f64, b: f64) -> f64
-    requires { ⌜ isNan a ≡ false ⌝ }
-    ensures { λ r. ⌜ (r ≡ maxOf a b) × (isNan r ≡ false) ⌝ }
+    ensures { λ r. ⌜ r ≡ cond (lt a b) b a ⌝ }
 {
     bits::pick(a < b, b, a)
 }
 
-fn row_scale(m: &[f64; 36], n: usize, i: usize, a: f64) -> f64
-    requires { ⌜ (n ≤ 6) × (i < 6) × (isNan a ≡ false) ⌝ }
-    ensures { λ r. ⌜ (r ≡ rowScaleOf n (now (m .entry)) i a) × (isNan r ≡ false) ⌝ }
+// The largest magnitude of a row, from +0 on: no row waits for the one before. A -0 is not above +0, so its sign may stay.
+fn row_scale(m: &[f64; 36], n: usize, i: usize) -> f64
+    requires { ⌜ (n ≤ 6) × (i < 6) ⌝ }
+    ensures { λ r. ⌜ (r ≡ rowScaleOf n (now (m .entry)) i +0) × (isNan r ≡ false) × (lt r +0 ≡ false) ⌝ }
 {
-    let mut acc = a;
+    let mut acc = 0.0;
     for j in 0..n {
         let k = i * 6 + j;
-        acc = larger(acc, bits::magnitude(m[k]));
+        acc = larger(acc, bits::unsigned(m[k]));
     }
     acc
 }
@@ -39,7 +39,7 @@ fn scale_of(m: &[f64; 36], n: usize) -> f64
 {
     let mut acc = 0.0;
     for i in 0..n {
-        acc = row_scale(m, n, i, acc);
+        acc = larger(acc, row_scale(m, n, i));
     }
     acc
 }
@@ -60,7 +60,7 @@ fn pivot_row(m: &[f64; 36], n: usize, col: usize) -> usize
     for i in col + 1..n {
         let k = p * 6 + col;
         let l = i * 6 + col;
-        if takes(bits::magnitude(m[k]), bits::magnitude(m[l])) {
+        if takes(bits::unsigned(m[k]), bits::unsigned(m[l])) {
             p = i;
         }
     }
@@ -153,7 +153,7 @@ fn column(m: &mut [f64; 36], rhs: &mut [f64; 6], n: usize, limit: f64, col: usiz
 {
     let p = pivot_row(m, n, col);
     let k = p * 6 + col;
-    if bits::magnitude(m[k]) <= limit {
+    if bits::unsigned(m[k]) <= limit {
         return false;
     }
     swap(m, rhs, col, p);
@@ -210,6 +210,7 @@ fn back(m: &[f64; 36], rhs: &[f64; 6], n: usize) -> Solved
 fn scaled(m: &mut [f64; 36], rhs: &mut [f64; 6], n: usize, tol: f64, scale: f64) -> Solved
     requires { ⌜ n ≤ 6 ⌝ }
     ensures { λ r. ⌜ r ≡ scaledOf n (now (m .entry)) (now (rhs .entry)) tol scale ⌝ }
+    ensures { λ r. ⌜ (now (m .exit) ≡ leftBy n (now (m .entry)) (now (rhs .entry)) tol scale .m) × (now (rhs .exit) ≡ leftBy n (now (m .entry)) (now (rhs .entry)) tol scale .rhs) ⌝ }
 {
     if bits::is_finite(scale) & (scale > 0.0) {
         if eliminate(m, rhs, n, tol * scale) {
@@ -223,18 +224,26 @@ fn scaled(m: &mut [f64; 36], rhs: &mut [f64; 6], n: usize, tol: f64, scale: f64)
 }
 
 // m x = rhs in n unknowns, or a refusal: n above 6, no positive finite scale, a pivot of at most tol times the scale, or a value that is not finite.
+// The elimination works in the caller's arrays.
+pub fn solve_lent(m: &mut [f64; 36], rhs: &mut [f64; 6], n: usize, tol: f64) -> Solved
+    ensures { λ r. ⌜ r ≡ solveOf n (now (m .entry)) (now (rhs .entry)) tol ⌝ }
+    ensures { λ r. ⌜ (now (m .exit) ≡ leftOf n (now (m .entry)) (now (rhs .entry)) tol .m) × (now (rhs .exit) ≡ leftOf n (now (m .entry)) (now (rhs .entry)) tol .rhs) ⌝ }
+{
+    if n <= 6 {
+        let scale = scale_of(m, n);
+        return scaled(m, rhs, n, tol, scale);
+    }
+    Solved {
+        x: [0.0; 6],
+        ok: false,
+    }
+}
+
+// The same of arrays by value.
 pub fn solve(m: [f64; 36], rhs: [f64; 6], n: usize, tol: f64) -> Solved
     ensures { λ r. ⌜ r ≡ solveOf n m rhs tol ⌝ }
 {
-    if n <= 6 {
-        let mut a = m;
-        let mut b = rhs;
-        let scale = scale_of(&a, n);
-        scaled(&mut a, &mut b, n, tol, scale)
-    } else {
-        Solved {
-            ok: false,
-            x: [0.0; 6],
-        }
-    }
+    let mut a = m;
+    let mut b = rhs;
+    solve_lent(&mut a, &mut b, n, tol)
 }

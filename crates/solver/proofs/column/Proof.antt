@@ -6,6 +6,7 @@ use denote.Ref.{now}
 use lib.Ieee.{Float, le}
 use Rattle.solver.specs.Solve.{System, standing, rowOf, belowOf, pivoted, columnOf}
 use Rattle.laws.proofs.Choices.{if-true, if-false}
+use Rattle.solver.proofs.Steps.{le-unsigned}
 use borrow.Author.Needs.{needs}
 use Rattle.solver.proofs.column.Statement.{statement}
 use Rattle.solver.proofs.column.Tie as tie
@@ -14,7 +15,7 @@ returns : tie.Need-returns
 unfolding columnOf pivoted
 returns c =
     let a = c .before .before .before .before .before .args in
-    let small = sym (ap (λ (x : Float). le x (a .limit)) (c .before .magnitude .ensures)) ∙ c .if1 .taken in
+    let small = sym (ap (λ (x : Float). le x (a .limit)) (c .before .unsigned .ensures) ∙ le-unsigned _ _) ∙ c .if1 .taken in
     if-true _ small refl
     ∙ ap (λ (p : ℕ). pivoted (a .n) (a .limit) (a .col) p (standing (now (a .m)) (now (a .rhs)))) (c .before .before .before .pivot-row .ensures .0)
 
@@ -27,7 +28,7 @@ returns-2 c =
     let q = b .before .before .before in
     let a = q .before .before .args in
     let t = standing (s .swap .last .0) (s .swap .last .1 .0) in
-    let large = sym (ap (λ (x : Float). le x (a .limit)) (b .before .magnitude .ensures)) ∙ b .if1 .left in
+    let large = sym (ap (λ (x : Float). le x (a .limit)) (b .before .unsigned .ensures) ∙ le-unsigned _ _) ∙ b .if1 .left in
     let below =
     c .eliminate-below .ensures ∙ ap (λ (top : List Float). belowOf (a .n) (a .col) top t) (r .row-of .ensures)
     ∙ ap (λ (t : System). belowOf (a .n) (a .col) (rowOf (t .m) (a .col)) t) (s .swap .ensures)

@@ -8,6 +8,7 @@ use Rattle.laws.specs.Floats.{absOf}
 use Rattle.laws.specs.Loop.{for}
 use Rattle.laws.proofs.Loops.{again, ended}
 use Rattle.laws.proofs.Choices.{if-true, if-false}
+use Rattle.solver.proofs.Steps.{ranked-unsigned}
 use native.Mathlib.Omega.{arith}
 use borrow.Author.Needs.{needs}
 use Rattle.solver.proofs.pivot_row.Statement.{statement}
@@ -28,7 +29,7 @@ loop-again : tie.Need-loop-again Inv-loop μ-loop
 loop-again c =
     let d = c .before in
     let l = d .before .before .before .before .before in
-    let r = sym (d .takes .ensures ∙ ap₂ ranked (d .before .before .before .magnitude .ensures) (d .before .magnitude2 .ensures)) in
+    let r = sym (d .takes .ensures ∙ ap₂ ranked (d .before .before .before .unsigned .ensures) (d .before .unsigned2 .ensures) ∙ ranked-unsigned _ _) in
     let next = again _ _ _ (l .loop-test .taken) in
     ⊎-elim
     (λ w. (omega arith, next (if-true _ (r ∙ w .0 .taken) (w .1)) (l .before .loop .inv .1)))

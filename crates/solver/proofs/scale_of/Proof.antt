@@ -1,31 +1,35 @@
 -- `solver::scale_of` meets its contract. Assumes nothing.
-use mathlib.Core.Path.{_≡_, refl}
-use mathlib.Core.Bool.{false}
+use mathlib.Core.Path.{_≡_, refl, sym, ap, subst, _∙_}
+use mathlib.Core.Bool.{cond}
 use Prim.Native.Nat.{_-_}
-use lib.Ieee.{isNan, ofBits}
+use lib.Ieee.{Float, lt}
 use Rattle.solver.specs.Solve.{rowScaleOf, scaleOf}
 use Rattle.laws.specs.Loop.{for}
 use Rattle.laws.proofs.Loops.{again, ended}
+use Rattle.solver.proofs.Steps.{Sized, zero-sized, both-sized, row-from}
 use native.Mathlib.Omega.{arith}
 use borrow.Author.Needs.{needs}
 use Rattle.solver.proofs.scale_of.Statement.{statement}
 use Rattle.solver.proofs.scale_of.Tie as tie
 
 abbrev Inv-loop : tie.InvT-loop
-Inv-loop m n a₀ i₀ a i = (for i n (λ i a. rowScaleOf n m i a) a ≡ scaleOf n m) × (isNan a ≡ false)
+Inv-loop m n a₀ i₀ a i = (for i n (λ i a. rowScaleOf n m i a) a ≡ scaleOf n m) × Sized a
 
 abbrev μ-loop : tie.MeasureT-loop
 μ-loop m n a₀ i₀ a i = n - i
 
 loop-holds : tie.Need-loop-holds Inv-loop μ-loop
-unfolding scaleOf isNan ofBits
-loop-holds c = (refl, refl)
+unfolding scaleOf
+loop-holds c = (refl, zero-sized)
 
 loop-again : tie.Need-loop-again Inv-loop μ-loop
-loop-again c = (again _ _ _ (c .before .loop-test .taken) (c .row-scale .ensures .0) (c .before .before .loop .inv .0), c .row-scale .ensures .1)
-
-row-scale-requires : tie.Need-row-scale-requires Inv-loop μ-loop
-row-scale-requires c κs = (c .before .before .pre, omega arith, c .before .loop .inv .1)
+loop-again c =
+    let r = c .before .row-scale in
+    let l = c .before .before in
+    let b = l .before .loop in
+    let row : Sized (r .result) = record { number = r .ensures .1; above = r .ensures .2 } in
+    let step = c .larger .ensures ∙ ap (λ (u : Float). cond (lt (b .acc) u) u (b .acc)) (r .ensures .0) ∙ row-from _ _ _ _ (b .inv .1) in
+    (again _ _ _ (l .loop-test .taken) step (b .inv .0), subst Sized (sym (c .larger .ensures)) (both-sized _ _ (b .inv .1) row))
 
 returns : tie.Need-returns Inv-loop μ-loop
 returns c = ended _ _ _ (c .loop-test .left) (c .before .loop .inv .0)
@@ -37,7 +41,8 @@ scale-of-spec =
     Inv-loop
     μ-loop
     loop-holds
-    row-scale-requires
+    (λ c κs. (c .before .before .pre, omega arith))
+    (λ c κs. search needs)
     (λ c. omega arith)
     (λ c. omega arith)
     loop-again

@@ -11,10 +11,10 @@ use Rattle.cell.proofs.trial.kkt.Statement.{statement}
 use Rattle.cell.proofs.trial.kkt.Tie as tie
 
 abbrev Inv-loop : tie.InvT-loop
-Inv-loop base g u f m₀ s₀ s-end m s = for s (f .size) (λ s t. slotOf g u (memberOf f s) (u + s) t) m ≡ kktOf base g u f
+Inv-loop m₀ g u f s₀ s-end m s = for s (f .size) (λ s t. slotOf g u (memberOf f s) (u + s) t) m ≡ kktOf m₀ g u f
 
 abbrev μ-loop : tie.MeasureT-loop
-μ-loop base g u f m₀ s₀ s-end m s = f .size - s
+μ-loop m₀ g u f s₀ s-end m s = f .size - s
 
 loop-holds : tie.Need-loop-holds Inv-loop μ-loop
 unfolding kktOf
@@ -24,7 +24,7 @@ loop-again : tie.Need-loop-again Inv-loop μ-loop
 loop-again c =
     let t = c .before .before .before in
     let l = t .before .loop in
-    let a = t .before .before .before .args in
+    let a = t .before .before .args in
     again _ _ _ (t .loop-test .taken) (c .slot .ensures ∙ ap (λ (m : ℕ). slotOf (a .g .now) (a .u) m (a .u + l .s) (l .m)) (c .before .before .member .ensures .0)) (l .inv)
 
 returns : tie.Need-returns Inv-loop μ-loop

@@ -13,10 +13,10 @@ use Rattle.cell.proofs.trial.rhs.Statement.{statement}
 use Rattle.cell.proofs.trial.rhs.Tie as tie
 
 abbrev Inv-loop : tie.InvT-loop
-Inv-loop right h u f t₀ s₀ s-end t s = for s (f .size) (λ s t. set t (u + s) (at h (memberOf f s))) t ≡ rhsOf right h u f
+Inv-loop t₀ h u f s₀ s-end t s = for s (f .size) (λ s t. set t (u + s) (at h (memberOf f s))) t ≡ rhsOf t₀ h u f
 
 abbrev μ-loop : tie.MeasureT-loop
-μ-loop right h u f t₀ s₀ s-end t s = f .size - s
+μ-loop t₀ h u f s₀ s-end t s = f .size - s
 
 loop-holds : tie.Need-loop-holds Inv-loop μ-loop
 unfolding rhsOf
@@ -26,7 +26,7 @@ loop-again : tie.Need-loop-again Inv-loop μ-loop
 loop-again c =
     let t = c .before .before in
     let l = t .before .loop in
-    let a = t .before .before .before .args in
+    let a = t .before .before .args in
     again _ _ _ (t .loop-test .taken) (ap (λ (m : ℕ). set (l .t) (a .u + l .s) (at (a .h .now) m)) (c .before .member .ensures .0)) (l .inv)
 
 returns : tie.Need-returns Inv-loop μ-loop
