@@ -67,7 +67,4 @@ taken-kept s a b c t e z = by (houseOf s) e
       where
         go : (r : ℕ) (b : Bool) → eqb r 0 ≡ b → t ≡ unless b (taken r v n n) (taken 0 v n (length (kept (recordsAt s v n)))) → t .kept ≡ length (kept (recordsAt s v n))
         go r true f e = ap (λ (x : Taken). x .kept) e
-        go r false f e = absurd (let x : r ≡ 0 = cc in false-is (sym (eq-eqb r 0 x) ∙ f))
-          where
-            false-is : true ≡ false → ⊥
-            false-is h = false-true (sym h)
+        go r false f e = let x : r ≡ 0 = cc in false-true (sym f ∙ eq-eqb r 0 x)

@@ -19,12 +19,12 @@ lt-or-le a b = go (leb b a) (leb→le b a) (nleb→lt b a)
     go false y z = inl (z tt)
 
 -- `compare` by its answer
-abbrev Says : Ordering → ℕ → ℕ → Type 0
+abbrev pub Says : Ordering → ℕ → ℕ → Type 0
 Says Ordering·lt a b = a < b
 Says Ordering·eq a b = a ≡ b
 Says Ordering·gt a b = b < a
 
-says : (a b : ℕ) → Says (compare a b) a b
+pub says : (a b : ℕ) → Says (compare a b) a b
 says a b = go (compare a b) (leb→le a b) (nleb→lt a b) (eqb→eq a b) (λ (e : a ≡ b). subst (λ (x : ℕ). T (eqb a x)) e (eqb-refl a))
   where
     go : (o : Ordering) → (T (isLe o) → a ≤ b) → (T (not (isLe o)) → b < a) → (T (isEq o) → a ≡ b) → (a ≡ b → T (isEq o)) → Says o a b

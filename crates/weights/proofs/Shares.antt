@@ -20,6 +20,7 @@ use Rattle.laws.proofs.Order.{lt-or, lt→le, le-self, le-trans, lt-le-trans}
 use Rattle.laws.specs.Floats.{+0, one, at, finite, positive, minOf, maxOf}
 use Rattle.laws.proofs.Loops.{for-ind}
 use Rattle.weights.specs.Weights.{allGood, topOf, scaleOne, scaledOf, capOf}
+use Rattle.weights.proofs.Sorted.{Number}
 
 abbrev over : Float → Float → Float
 over x y = div binary64 x y
@@ -107,12 +108,9 @@ is-one (fin false n d) p g =
 
 -- ---- the largest capped weight
 
-Number : Float → Type 0
-Number x = T (not (isNan x))
-
 -- what is above something, or something is below, is a number
 above-number : (x y : Float) → T (lt x y) → Number y
-unfolding Number lt isNan
+unfolding lt isNan
 above-number nan y h = absurd h
 above-number (inf s) nan h = absurd h
 above-number (inf s) (inf t) h = tt
@@ -122,11 +120,11 @@ above-number (fin s m e) (inf t) h = tt
 above-number (fin s m e) (fin t n d) h = tt
 
 zero-number : Number +0
-unfolding Number isNan ofBits
+unfolding isNan ofBits
 zero-number = tt
 
 same-is : (t : Float) → Number t → ne t t ≡ true → ⊥
-unfolding Number isNan
+unfolding isNan
 same-is t n h = go (differs-from-itself t (subst T (sym h) tt))
   where
     go : t ≡ nan → ⊥
@@ -172,7 +170,6 @@ module _ (cap : Float) (ws : List Float) where
     most : (j : ℕ) → j < i → Number (v j) → T (le (v j) t)
 
   larger : (i : ℕ) (t : Float) → i < length ws → Largest i t → Largest (i + 1) (maxOf t (v i))
-  unfolding Number
   larger i t l h =
       let n = top-number i t (h .top) in
       record {
@@ -223,7 +220,7 @@ over-zero (inf false) g = g
 over-zero (fin s m e) g = absurd (not-suc-le-zero (quotient s m e 0 (pos 0) g .0))
 
 over-number : (x y : Float) → T (positive (over x y)) → Number x
-unfolding div lt le eq ofBits finite Number isNan
+unfolding div lt le eq ofBits finite isNan
 over-number nan y g = absurd g
 over-number (inf s) y g = tt
 over-number (fin s m e) y g = tt
