@@ -9,10 +9,10 @@ use native.Mathlib.Omega.{arith}
 use lib.ListN.{length, set, length-set}
 use lib.Seq.{getD-set-same, getD-set-other}
 use lib.Ieee.{Float, nan}
-use borrow.Author.Tests.{le-leb, eq-eqb}
+use borrow.Author.Tests.{le-leb, eq-eqb, leb-true, eqb-true}
 use Rattle.laws.specs.Loop.{turns}
 use Rattle.laws.specs.Floats.{_+f_, _*f_, at, finite}
-use Rattle.laws.proofs.Choices.{cond-ind}
+use Rattle.laws.proofs.Choices.{cond-ind, both}
 use Rattle.laws.proofs.Loops.{for-keeps, for-same}
 use Rattle.solver.specs.declared.Solved.{Solved}
 use Rattle.cell.specs.declared.Face.{Face}
@@ -24,9 +24,11 @@ use Rattle.cell.specs.Faces.{faceAt}
 use Rattle.cell.specs.Next.{Good, Ordered, nextOf}
 use Rattle.cell.specs.Polytope.{rowsOf, boundsOf, spreadOf, feasibleOf}
 use Rattle.laws.specs.Room.{filledOn}
+use Rattle.laws.proofs.Rooms.{filled-at, filled-length}
 use Rattle.roots.specs.Hypot.{withOneOf}
-use Rattle.cell.specs.Least.{hOf, addedTo, normalOf, baseOf, rightOf, restOf, objectiveOf}
-use Rattle.cell.specs.Cell.{Problem, problem, solutionOf, widened, noTry, valuedOf, metOf, triedOf, tryOf, wins, pickOf, bestOf, chosenOf, problemOf, posedOf, fitModel, cellOf, innerOf}
+use Rattle.cell.specs.Least.{yOf, hOf, addedTo, normalOf, baseOf, rightOf, restOf, objectiveOf}
+use Rattle.cell.specs.Cell.{Problem, problem, solutionOf, widened, noTry, valuedOf, metOf, triedOf, tryOf, wins, pickOf, bestOf, chosenOf, problemOf, posedOf, fitModel, cellOf, inRange, noCell, innerOf}
+use Rattle.cell.specs.Lent.{ysOn, hsOn, innerOn}
 
 -- ---- the rows of the observations, computed once
 
@@ -57,12 +59,44 @@ pub posed-is :
 unfolding problemOf
 posed-is k m n sigma l base right g h s e eb er eg eh es = cc
 
--- in range, `inner` is the cell of the fit
-pub inner-in-range :
-    (ks ws ts : List Float) (l : Limits) (m sigma : Float) → length ks ≤ 256 → length ws ≡ length ks → length ts ≡ length ks
-    → innerOf ks ws ts l m sigma ≡ cellOf fitModel ks ws ts l m sigma
-unfolding innerOf
-inner-in-range ks ws ts l m sigma r e f = rw (le-leb _ _ r, eq-eqb _ _ e, eq-eqb _ _ f)
+-- ---- lent room
+
+module _ (ks : List Float) (m sigma : Float) (ys hs : List Float) where
+  pub ys-length : length (ysOn ks m sigma ys) ≡ length ys
+  unfolding ysOn
+  ys-length = filled-length _ _ ys
+
+  pub hs-length : length (hsOn ks m sigma ys hs) ≡ length hs
+  unfolding hsOn
+  hs-length = filled-length _ _ hs
+
+  module _ (a : 256 ≤ length ys) (b : 256 ≤ length hs) (r : length ks ≤ 256) where
+    ys-at : (i : ℕ) → i < length ks → at (ysOn ks m sigma ys) i ≡ yOf ks m sigma i
+    unfolding ysOn
+    ys-at i l = filled-at _ nan _ i ys (omega arith) l
+
+    hs-at : (i : ℕ) → i < length ks → at (hsOn ks m sigma ys hs) i ≡ hOf (yOf ks m sigma i)
+    unfolding hsOn
+    hs-at i l = filled-at _ nan _ i hs (omega arith) l ∙ ap hOf (ys-at i l)
+
+-- what is chosen where a test holds need be the same only there
+same-if : {A : Type 0} (t : Bool) {x y : A} (z : A) → (t ≡ true → x ≡ y) → cond t x z ≡ cond t y z
+same-if true z f = f refl
+same-if false z f = refl
+
+-- in room for 256 numbers, `inner_on` is `inner`
+pub inner-lent :
+    (ks ws ts : List Float) (l : Limits) (m sigma : Float) (ys hs : List Float) → 256 ≤ length ys → 256 ≤ length hs
+    → innerOn ks ws ts l m sigma ys hs ≡ innerOf ks ws ts l m sigma
+unfolding innerOn innerOf cellOf
+inner-lent ks ws ts l m sigma ys hs a b =
+    same-if (inRange ks ws ts) noCell
+    (λ e.
+    let h = both _ _ e in
+    let r = leb-true _ _ (h .0) in
+    let w : length ws ≡ length ks = eqb-true _ _ (both _ _ (h .1) .0) in
+    posed-same (at (ysOn ks m sigma ys)) (yOf ks m sigma) (at (hsOn ks m sigma ys hs)) (λ i. hOf (yOf ks m sigma i)) ws ts
+    (λ i g. ys-at ks m sigma ys hs a b r i (omega (arith, g, w))) (λ i g. hs-at ks m sigma ys hs a b r i (omega (arith, g, w))) fitModel l sigma)
 
 -- ---- the faces
 

@@ -4,3 +4,4 @@ pub mod Polytope
 pub mod Least
 pub mod Cell
 pub mod Next
+pub mod Lent

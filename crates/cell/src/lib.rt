@@ -8,11 +8,13 @@ ghost use mathlib.Core.Path.{_≡_};
 ghost use mathlib.Core.Bool.{false};
 ghost use Prim.Native.Nat.{_≤_};
 ghost use lib.ListN.{length};
+ghost use Rattle.laws.specs.Choice.{unless};
 ghost use Rattle.laws.specs.Floats.{at};
 ghost use Rattle.cell.specs.Faces.{faceAt};
 ghost use Rattle.cell.specs.Next.{Good, Ordered};
 ghost use Rattle.cell.specs.Least.{objectiveAt};
-ghost use Rattle.cell.specs.Cell.{problem, tryOf, bestOf, cellFrom, chosenOf, posedOf, cellOf, innerOf};
+ghost use Rattle.cell.specs.Cell.{problem, tryOf, bestOf, cellFrom, chosenOf, posedOf, inRange, innerOf};
+ghost use Rattle.cell.specs.Lent.{ysOn, hsOn, innerOn};
 
 // A face: how many of its constraints are held, and which, rising; what is not used is 0.
 pub struct Face {
@@ -194,21 +196,42 @@ fn posed(
     )
 }
 
-// The cell (m, sigma) of a model: y and its hypotenuse with 1 are worked out once for each observation.
-fn cell_at(k: Model, ks: &[f64], ws: &[f64], ts: &[f64], l: Limits, m: f64, sigma: f64) -> Cell
+// The cell (m, sigma) of a model: y and its hypotenuse with 1 are worked out once for each observation, in lent room.
+fn cell_at(
+    k: Model,
+    ks: &[f64],
+    ws: &[f64],
+    ts: &[f64],
+    l: Limits,
+    m: f64,
+    sigma: f64,
+    ys: &mut [f64; 256],
+    hs: &mut [f64; 256],
+) -> Cell
     requires { ⌜ Ordered (k .u) (k .n) (k .faces) × (length (now ks) ≤ 256) × (length (now ws) ≡ length (now ks)) × (length (now ts) ≡ length (now ks)) ⌝ }
-    ensures { λ r. ⌜ r ≡ cellOf k (now (ks .entry)) (now (ws .entry)) (now (ts .entry)) l m sigma ⌝ }
+    ensures { λ r. ⌜ r ≡ posedOf k (at (ysOn (now (ks .entry)) m sigma (now (ys .entry)))) (at (hsOn (now (ks .entry)) m sigma (now (ys .entry)) (now (hs .entry)))) (now (ws .entry)) (now (ts .entry)) l sigma ⌝ }
+    ensures { λ r. ⌜ now (ys .exit) ≡ ysOn (now (ks .entry)) m sigma (now (ys .entry)) ⌝ }
+    ensures { λ r. ⌜ now (hs .exit) ≡ hsOn (now (ks .entry)) m sigma (now (ys .entry)) (now (hs .entry)) ⌝ }
 {
-    let mut ys = [0.0; 256];
-    let mut hs = [0.0; 256];
-    least::fill_ys(ks, m, sigma, &mut ys);
-    roots::lengths::with_one(&ys, ks.len(), &mut hs);
-    posed(k, &ys, &hs, ws, ts, l, sigma)
+    least::fill_ys(ks, m, sigma, ys);
+    roots::lengths::with_one(ys, ks.len(), hs);
+    posed(k, ys, hs, ws, ts, l, sigma)
 }
 
-// The cell of the fit. Over 256 observations, or not as many w or weights as k, give no face, and none is tried.
-pub fn inner(ks: &[f64], ws: &[f64], ts: &[f64], l: Limits, m: f64, sigma: f64) -> Cell
-    ensures { λ r. ⌜ r ≡ innerOf (now (ks .entry)) (now (ws .entry)) (now (ts .entry)) l m sigma ⌝ }
+// The cell of the fit, in lent room, so that a search need not make it again for each cell. Over 256 observations, or not as many w or weights as k, give no face, none is tried, and the room is left as it was.
+pub fn inner_on(
+    ks: &[f64],
+    ws: &[f64],
+    ts: &[f64],
+    l: Limits,
+    m: f64,
+    sigma: f64,
+    ys: &mut [f64; 256],
+    hs: &mut [f64; 256],
+) -> Cell
+    ensures { λ r. ⌜ r ≡ innerOn (now (ks .entry)) (now (ws .entry)) (now (ts .entry)) l m sigma (now (ys .entry)) (now (hs .entry)) ⌝ }
+    ensures { λ r. ⌜ now (ys .exit) ≡ unless (inRange (now (ks .entry)) (now (ws .entry)) (now (ts .entry))) (now (ys .entry)) (ysOn (now (ks .entry)) m sigma (now (ys .entry))) ⌝ }
+    ensures { λ r. ⌜ now (hs .exit) ≡ unless (inRange (now (ks .entry)) (now (ws .entry)) (now (ts .entry))) (now (hs .entry)) (hsOn (now (ks .entry)) m sigma (now (ys .entry)) (now (hs .entry))) ⌝ }
 {
     if (ks.len() <= 256) & ((ws.len() == ks.len()) & (ts.len() == ks.len())) {
         return cell_at(
@@ -223,6 +246,8 @@ pub fn inner(ks: &[f64], ws: &[f64], ts: &[f64], l: Limits, m: f64, sigma: f64) 
             l,
             m,
             sigma,
+            ys,
+            hs,
         );
     }
     Cell {
@@ -232,4 +257,13 @@ pub fn inner(ks: &[f64], ws: &[f64], ts: &[f64], l: Limits, m: f64, sigma: f64) 
         active: [false; 7],
         faces: 0,
     }
+}
+
+// The cell of the fit. Over 256 observations, or not as many w or weights as k, give no face, and none is tried.
+pub fn inner(ks: &[f64], ws: &[f64], ts: &[f64], l: Limits, m: f64, sigma: f64) -> Cell
+    ensures { λ r. ⌜ r ≡ innerOf (now (ks .entry)) (now (ws .entry)) (now (ts .entry)) l m sigma ⌝ }
+{
+    let mut ys = [0.0; 256];
+    let mut hs = [0.0; 256];
+    inner_on(ks, ws, ts, l, m, sigma, &mut ys, &mut hs)
 }

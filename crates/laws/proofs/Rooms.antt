@@ -11,6 +11,7 @@ use borrow.Author.Tests.{eq-eqb, ne-eqb}
 use Rattle.laws.specs.Loop.{turns}
 use Rattle.laws.specs.Room.{atFront, written, filledOn}
 use Rattle.laws.proofs.Choices.{if-true, if-false}
+use Rattle.laws.proofs.Loops.{for-keeps}
 
 -- one element more behind the n that are written, in front of the room o
 pub put-next : {A : Type 0} (d : A) (p o : List A) (n m : ℕ) (a : A) → length p ≡ n → n < length o → m ≡ suc n → set (p ++ drop n o) n a ≡ (p ++ (a ∷ [])) ++ drop m o
@@ -59,3 +60,7 @@ module _ {A : Type 0} (v : ℕ → A) where
   pub filled-at : (d : A) (n i : ℕ) (before : List A) → n ≤ length before → i < n → getD (filledOn n v before) i d ≡ v i
   unfolding filledOn
   filled-at d n i before s l = laid d (n - 0) 0 i before (omega arith) (omega arith) (omega arith)
+
+  pub filled-length : (n : ℕ) (before : List A) → length (filledOn n v before) ≡ length before
+  unfolding filledOn
+  filled-length n before = for-keeps (λ (t : List A). length t ≡ length before) _ n (λ i l t e. length-set t i (v i) ∙ e) before refl

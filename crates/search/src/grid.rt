@@ -2,8 +2,9 @@
 ghost use mathlib.Core.Path.{_≡_};
 ghost use mathlib.Core.Bool.{cond};
 ghost use Prim.Native.Nat.{_^_, _≤_, _<_};
+ghost use lib.ListN.{length};
 ghost use Rattle.laws.specs.Room.{filledOn};
-ghost use Rattle.cell.specs.Cell.{noCell};
+ghost use Rattle.cell.specs.Cell.{noCell, innerOf};
 ghost use Rattle.search.specs.Search.{better, consider, rowOf, passOf};
 ghost use Rattle.search.specs.Run.{fitCell};
 ghost use Rattle.search.specs.Sigmas.{sigmaAt, sigmasOf};
@@ -22,6 +23,23 @@ fn fill_sigmas(a: Axis, n: usize, sigmas: &mut [f64; 256])
     for j in 0..n {
         sigmas[j] = exponent::exp(points::linspace_at(a.lo, a.hi, n, j));
     }
+}
+
+// One cell, in room that is used for every cell of a pass.
+fn cell_at(
+    ks: &[f64],
+    ws: &[f64],
+    ts: &[f64],
+    l: Limits,
+    m: f64,
+    sigma: f64,
+    ys: &mut [f64; 256],
+    hs: &mut [f64; 256],
+) -> Cell
+    requires { ⌜ (length (now ys) ≡ 256) × (length (now hs) ≡ 256) ⌝ }
+    ensures { λ r. ⌜ (r ≡ innerOf (now (ks .entry)) (now (ws .entry)) (now (ts .entry)) l m sigma) × (length (now (ys .exit)) ≡ 256) × (length (now (hs .exit)) ≡ 256) ⌝ }
+{
+    cell::inner_on(ks, ws, ts, l, m, sigma, ys, hs)
 }
 
 fn pick_cell(c: bool, a: Cell, b: Cell) -> Cell
@@ -61,16 +79,18 @@ fn row(
     w: Window,
     n: usize,
     sigmas: &[f64; 256],
+    ys: &mut [f64; 256],
+    hs: &mut [f64; 256],
     i: usize,
     b: PassBest,
 ) -> PassBest
-    requires { ⌜ (n ≤ 255) × (b .cells < 2 ^ 50) × (b .faces < 2 ^ 50) × (now sigmas ≡ sigmasOf (w .s) n) ⌝ }
-    ensures { λ r. ⌜ r ≡ rowOf (fitCell (now (ks .entry)) (now (ws .entry)) (now (ts .entry)) l) w n i b ⌝ }
+    requires { ⌜ (n ≤ 255) × (b .cells < 2 ^ 50) × (b .faces < 2 ^ 50) × (now sigmas ≡ sigmasOf (w .s) n) × (length (now ys) ≡ 256) × (length (now hs) ≡ 256) ⌝ }
+    ensures { λ r. ⌜ (r ≡ rowOf (fitCell (now (ks .entry)) (now (ws .entry)) (now (ts .entry)) l) w n i b) × (length (now (ys .exit)) ≡ 256) × (length (now (hs .exit)) ≡ 256) ⌝ }
 {
     let m = points::linspace_at(w.m.lo, w.m.hi, n, i);
     let mut best = b;
     for j in 0..n {
-        let c = cell::inner(ks, ws, ts, l, m, sigmas[j]);
+        let c = cell_at(ks, ws, ts, l, m, sigmas[j], ys, hs);
         best = considered(best, c, i, j);
     }
     best
@@ -102,9 +122,11 @@ pub(crate) fn pass(ks: &[f64], ws: &[f64], ts: &[f64], l: Limits, w: Window, n: 
         faces: 0,
     };
     let mut sigmas = [0.0; 256];
+    let mut ys = [0.0; 256];
+    let mut hs = [0.0; 256];
     fill_sigmas(w.s, n, &mut sigmas);
     for i in 0..n {
-        best = row(ks, ws, ts, l, w, n, &sigmas, i, best);
+        best = row(ks, ws, ts, l, w, n, &sigmas, &mut ys, &mut hs, i, best);
     }
     best
 }

@@ -3,6 +3,8 @@ use mathlib.Core.Path.{_≡_, sym, ap, _∙_}
 use Rattle.cell.specs.declared.Cell.{Cell}
 use native.Mathlib.Nat.{mul-assoc}
 use Prim.Native.Nat.{_-_, _*_, _≤_}
+use lib.ListN.{length, length-replicate}
+use Rattle.laws.specs.Floats.{+0}
 use Rattle.laws.specs.Loop.{for}
 use Rattle.search.specs.declared.PassBest.{PassBest}
 use Rattle.search.specs.Search.{noBest, rowOf, passOf}
@@ -19,32 +21,36 @@ use Rattle.search.proofs.grid.pass.Statement.{statement}
 use Rattle.search.proofs.grid.pass.Tie as tie
 
 abbrev Inv-loop : tie.InvT-loop
-Inv-loop ks ws ts l w n best₀ sigmas i₀ best i = (i ≤ n) × (best ≡ for 0 i (λ i b. rowOf (fitCell ks ws ts l) w n i b) noBest)
+Inv-loop ks ws ts l w n best₀ sigmas ys₀ hs₀ i₀ best ys hs i =
+    (i ≤ n) × (best ≡ for 0 i (λ i b. rowOf (fitCell ks ws ts l) w n i b) noBest) × (length ys ≡ 256) × (length hs ≡ 256)
 
 abbrev μ-loop : tie.MeasureT-loop
-μ-loop ks ws ts l w n best₀ sigmas i₀ best i = n - i
+μ-loop ks ws ts l w n best₀ sigmas ys₀ hs₀ i₀ best ys hs i = n - i
 
 loop-holds : tie.Need-loop-holds Inv-loop μ-loop
 loop-holds c =
     let f : Cell → PassBest = λ x. record { cell = x; i = 0; j = 0; cells = 0; faces = 0 } in
-    (search needs, ap f (c .before .before .no-cell .ensures) ∙ none-yet _ noBest)
+    (search needs, ap f (c .before .before .no-cell .ensures) ∙ none-yet _ noBest, length-replicate 256 +0, length-replicate 256 +0)
 
 row-requires : tie.Need-row-requires Inv-loop μ-loop
 unfolding sigmasOf
 row-requires c κs =
-    let l = c .before .before .loop in
-    let z = c .before .before .before .fill-sigmas in
-    let s = c .before .before .before .before .before .before .before .before .before in
+    let l = c .before .before .before .before .loop in
+    let z = c .before .before .before .before .before .fill-sigmas in
+    let s = c .before .before .before .before .before .before .before .before .before .before .before in
     let a = s .args in
     let f = fitCell (a .ks .now) (a .ws .now) (a .ts .now) (a .l) in
     let k : CountsTo f (a .w) (a .n) (l .best) (l .i * a .n) (sum (l .i) (λ i. sum (a .n) (facesAt f (a .w) (a .n) i))) = rw (l .inv .1) (rows-counts f (a .w) (a .n) (l .i)) in
     let m = sum-most (l .i) (a .n * 64) (λ i. sum (a .n) (facesAt f (a .w) (a .n) i)) (λ i h. sum-most (a .n) 64 (facesAt f (a .w) (a .n) i) (λ j h. fit-most (a .ks .now) (a .ws .now) (a .ts .now) (a .l) _ _)) in
     let g = grid-cells (l .i) (a .n) (l .inv .0) (s .pre) in
     let y : l .i * (a .n * 64) ≡ l .i * a .n * 64 = sym (mul-assoc (l .i) (a .n) 64) in
-    (s .pre, omega (arith, k .cells, g), omega (arith, k .faces, m, g, y), z .ensures)
+    (s .pre, omega (arith, k .cells, g), omega (arith, k .faces, m, g, y), z .ensures, l .inv .2, l .inv .3)
 
 loop-again : tie.Need-loop-again Inv-loop μ-loop
-loop-again c = (omega arith, one-more _ _ (c .before .before .before .loop .i) (c .before .before .before .loop .inv .1) (c .row .ensures))
+loop-again c =
+    let l = c .before .before .before .before .before .loop in
+    let e = c .row .ensures in
+    (omega arith, one-more _ _ (l .i) (l .inv .1) (e .0), e .1, e .2)
 
 returns : tie.Need-returns Inv-loop μ-loop
 unfolding passOf

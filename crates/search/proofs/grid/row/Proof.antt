@@ -37,25 +37,33 @@ module _ (t : List Float) (w : Window) (n i : ℕ) (ks ws ts : List Float) (l : 
   same-row k b h = for-same _ _ k (λ j g s. ap (λ (c : Cell). consider s c i j) (same-cell j (omega arith))) b
 
 abbrev Inv-loop : tie.InvT-loop
-Inv-loop ks ws ts l n sigmas i m best₀ j₀ best j = (j ≤ n) × (best ≡ for 0 j (λ j b. consider b (innerOf ks ws ts l m (at sigmas j)) i j) best₀)
+Inv-loop ks ws ts l n sigmas ys₀ hs₀ i m best₀ j₀ ys hs best j =
+    (j ≤ n) × (best ≡ for 0 j (λ j b. consider b (innerOf ks ws ts l m (at sigmas j)) i j) best₀) × (length ys ≡ 256) × (length hs ≡ 256)
 
 abbrev μ-loop : tie.MeasureT-loop
-μ-loop ks ws ts l n sigmas i m best₀ j₀ best j = n - j
+μ-loop ks ws ts l n sigmas ys₀ hs₀ i m best₀ j₀ ys hs best j = n - j
 
 loop-holds : tie.Need-loop-holds Inv-loop μ-loop
-loop-holds c = (search needs, none-yet _ _)
+loop-holds c =
+    let s = c .before .before .before .before in
+    (search needs, none-yet _ _, s .pre .4, s .pre .5)
+
+cell-at-requires : tie.Need-cell-at-requires Inv-loop μ-loop
+cell-at-requires c κs =
+    let l = c .before .before .before .before .loop in
+    (l .inv .2, l .inv .3)
 
 considered-requires : tie.Need-considered-requires Inv-loop μ-loop
 considered-requires c κs =
-    let l = c .before .before .before .loop in
-    let p = c .before .before .before .before in
+    let l = c .before .before .before .before .before .loop in
+    let p = c .before .before .before .before .before .before in
     let s = p .before .before .before .before in
     let a = s .args in
     let f = fitCell (a .ks .now) (a .ws .now) (a .ts .now) (a .l) in
     let k = row-counts f (a .w) (a .n) (a .i) (a .b) (l .j) in
     let m = sum-most (l .j) 64 (facesAt f (a .w) (a .n) (a .i)) (λ j h. fit-most (a .ks .now) (a .ws .now) (a .ts .now) (a .l) _ _) in
-    let t : c .inner .result .faces ≤ 64 =
-    rw (c .inner .ensures, same-cell (a .sigmas .now) (a .w) (a .n) (a .i) (a .ks .now) (a .ws .now) (a .ts .now) (a .l) _ (s .pre .0) (s .pre .3) (p .linspace-at .ensures) (l .j) (c .before .before .loop-test .taken))
+    let t : c .cell-at .result .faces ≤ 64 =
+    rw (c .cell-at .ensures .0, same-cell (a .sigmas .now) (a .w) (a .n) (a .i) (a .ks .now) (a .ws .now) (a .ts .now) (a .l) _ (s .pre .0) (s .pre .3) (p .linspace-at .ensures) (l .j) (c .before .before .before .before .loop-test .taken))
     (fit-most (a .ks .now) (a .ws .now) (a .ts .now) (a .l) _ _) in
     let e : CountsTo f (a .w) (a .n) (l .best) (a .b .cells + l .j) (a .b .faces + sum (l .j) (facesAt f (a .w) (a .n) (a .i))) =
     rw (l .inv .1, same-row (a .sigmas .now) (a .w) (a .n) (a .i) (a .ks .now) (a .ws .now) (a .ts .now) (a .l) _ (s .pre .0) (s .pre .3) (p .linspace-at .ensures) (l .j) (a .b) (l .inv .0)) k in
@@ -63,8 +71,9 @@ considered-requires c κs =
 
 loop-again : tie.Need-loop-again Inv-loop μ-loop
 loop-again c =
-    let l = c .before .before .before .before .loop in
-    (omega arith, one-more _ _ (l .j) (l .inv .1) (cc))
+    let l = c .before .before .before .before .before .before .loop in
+    let e = c .before .cell-at .ensures in
+    (omega arith, one-more _ _ (l .j) (l .inv .1) (rw (← e .0) (c .considered .ensures)), e .1, e .2)
 
 returns : tie.Need-returns Inv-loop μ-loop
 unfolding rowOf
@@ -73,7 +82,7 @@ returns c =
     let p = c .before .before in
     let s = p .before .before .before .before in
     let a = s .args in
-    all-done _ _ (omega arith) (l .inv .1 ∙ same-row (a .sigmas .now) (a .w) (a .n) (a .i) (a .ks .now) (a .ws .now) (a .ts .now) (a .l) _ (s .pre .0) (s .pre .3) (p .linspace-at .ensures) (l .j) (a .b) (l .inv .0))
+    (all-done _ _ (omega arith) (l .inv .1 ∙ same-row (a .sigmas .now) (a .w) (a .n) (a .i) (a .ks .now) (a .ws .now) (a .ts .now) (a .l) _ (s .pre .0) (s .pre .3) (p .linspace-at .ensures) (l .j) (a .b) (l .inv .0)), l .inv .2, l .inv .3)
 
 pub row-spec : {M : Type 1} → statement M
 row-spec =
@@ -85,7 +94,7 @@ row-spec =
     loop-holds
     (λ c. omega arith)
     (λ c. omega arith)
-    (λ c κs. search needs)
+    cell-at-requires
     considered-requires
     (λ c. omega arith)
     (λ c. omega arith)
