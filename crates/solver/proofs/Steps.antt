@@ -9,7 +9,7 @@ use lib.Dec.{T, ltb, eqb}
 use lib.IntN.{ℤ}
 use lib.Seq.{set-getD}
 use lib.ListN.{set}
-use lib.Ieee.{Float, nan, inf, fin, up, down, lt, le, eq, neg, isNan, ofBits}
+use lib.Ieee.{Float, nan, inf, fin, up, down, lt, le, eq, ne, neg, isNan, ofBits}
 use lib.Ieee.Fits.{up-pos}
 use lib.Ieee.Bits.{is-true}
 use borrow.Author.Tests.{ltb-true, ltb-false, le-ltb}
@@ -20,6 +20,10 @@ use Rattle.laws.proofs.Floats.{nan-test, unsigned}
 use Rattle.laws.proofs.Loops.{for-keeps}
 use Rattle.laws.proofs.Order.{lt-le-trans, lt-or, lt→le}
 use Rattle.solver.specs.Solve.{System, after, entry, ranked, rowScaleOf, exchange, swapRows, swapped}
+
+or-true : (t : Bool) → (t || true) ≡ true
+or-true true = refl
+or-true false = refl
 
 -- ---- a magnitude that keeps the sign of a -0 compares as the magnitude
 
@@ -94,9 +98,21 @@ nan-unsigned : (x : Float) → isNan (unsigned x) ≡ isNan (absOf x)
 unfolding isNan
 nan-unsigned x = unsigned-ind (λ (a b : Float). isNan a ≡ isNan b) (λ y. refl) (λ e. refl) x
 
-pub ranked-unsigned : (x y : Float) → ranked (unsigned x) (unsigned y) ≡ ranked (absOf x) (absOf y)
-unfolding ranked
-ranked-unsigned x y = ap₂ _||_ (nan-unsigned y) (le-unsigned x (unsigned y) ∙ unsigned-le (absOf x) y)
+-- the code's two tests, a <= b and b != b, of magnitudes of both forms
+module _ (x y a b : Float) (f : a ≡ unsigned x) (g : b ≡ unsigned y) where
+  tested : ranked (absOf x) (absOf y) ≡ (ne b b || le a b)
+  unfolding ranked
+  tested =
+      sym (ap₂ _||_ (nan-test b ∙ ap isNan g ∙ nan-unsigned y) (ap₂ le f g ∙ le-unsigned x (unsigned y) ∙ unsigned-le (absOf x) y))
+
+  pub ranked-least : le a b ≡ true → ranked (absOf x) (absOf y) ≡ true
+  ranked-least h = tested ∙ ap (λ (t : Bool). ne b b || t) h ∙ or-true (ne b b)
+
+  pub ranked-nan : ne b b ≡ true → ranked (absOf x) (absOf y) ≡ true
+  ranked-nan h = tested ∙ ap (λ (t : Bool). t || le a b) h
+
+  pub ranked-not : le a b ≡ false → ne b b ≡ false → ranked (absOf x) (absOf y) ≡ false
+  ranked-not h k = tested ∙ ap₂ _||_ k h
 
 -- ---- the scale, row by row
 

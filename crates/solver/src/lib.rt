@@ -5,7 +5,7 @@ ghost use Prim.Native.Nat.{_+_, _≤_, _<_};
 ghost use mathlib.Core.Bool.{true, false, cond};
 ghost use lib.Ieee.{isNan, lt};
 ghost use Rattle.laws.specs.Floats.{+0};
-ghost use Rattle.solver.specs.Solve.{after, standing, ranked, rowScaleOf, scaleOf, pivotRowOf, rowOf, swapRows, swapped, minusOf, factorOf, rowDone, belowOf, columnOf, eliminatedOf, tailOf, backOf, scaledOf, solveOf, leftBy, leftOf};
+ghost use Rattle.solver.specs.Solve.{after, standing, rowScaleOf, scaleOf, pivotRowOf, rowOf, swapRows, swapped, minusOf, factorOf, rowDone, belowOf, columnOf, eliminatedOf, tailOf, backOf, scaledOf, solveOf, leftBy, leftOf};
 
 // The unknowns, and whether there is a solution; what is no unknown is 0. The six numbers come first: behind the bool they would be copied from an odd address.
 pub struct Solved {
@@ -44,14 +44,8 @@ fn scale_of(m: &[f64; 36], n: usize) -> f64
     acc
 }
 
-// Whether b is at least a, of two magnitudes; a NaN is above all.
-fn takes(a: f64, b: f64) -> bool
-    ensures { λ r. ⌜ r ≡ ranked a b ⌝ }
-{
-    (b != b) | (a <= b)
-}
-
-// The row from `col` on with the largest magnitude in its column: the last of equal ones.
+// The row from `col` on with the largest magnitude in its column: the last of equal ones, and a NaN is above all.
+// Two jumps, each mostly one way, let the processor go on with the row that it expects.
 fn pivot_row(m: &[f64; 36], n: usize, col: usize) -> usize
     requires { ⌜ (n ≤ 6) × (col < n) ⌝ }
     ensures { λ r. ⌜ (r ≡ pivotRowOf n (now (m .entry)) col) × (r < n) ⌝ }
@@ -60,7 +54,10 @@ fn pivot_row(m: &[f64; 36], n: usize, col: usize) -> usize
     for i in col + 1..n {
         let k = p * 6 + col;
         let l = i * 6 + col;
-        if takes(bits::unsigned(m[k]), bits::unsigned(m[l])) {
+        let size = bits::unsigned(m[l]);
+        if bits::unsigned(m[k]) <= size {
+            p = i;
+        } else if size != size {
             p = i;
         }
     }

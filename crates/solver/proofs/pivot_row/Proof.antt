@@ -1,5 +1,5 @@
 -- `solver::pivot_row` meets its contract. Assumes nothing.
-use mathlib.Core.Path.{_≡_, refl, sym, ap₂, _∙_}
+use mathlib.Core.Path.{_≡_, refl}
 use mathlib.Core.Bool.{cond}
 use mathlib.Core.Logic.{⊎-elim}
 use Prim.Native.Nat.{_-_, _<_}
@@ -8,7 +8,7 @@ use Rattle.laws.specs.Floats.{absOf}
 use Rattle.laws.specs.Loop.{for}
 use Rattle.laws.proofs.Loops.{again, ended}
 use Rattle.laws.proofs.Choices.{if-true, if-false}
-use Rattle.solver.proofs.Steps.{ranked-unsigned}
+use Rattle.solver.proofs.Steps.{ranked-least, ranked-nan, ranked-not}
 use native.Mathlib.Omega.{arith}
 use borrow.Author.Needs.{needs}
 use Rattle.solver.proofs.pivot_row.Statement.{statement}
@@ -28,12 +28,17 @@ loop-holds c = (omega arith, refl)
 loop-again : tie.Need-loop-again Inv-loop μ-loop
 loop-again c =
     let d = c .before in
-    let l = d .before .before .before .before .before in
-    let r = sym (d .takes .ensures ∙ ap₂ ranked (d .before .before .before .unsigned .ensures) (d .before .unsigned2 .ensures) ∙ ranked-unsigned _ _) in
+    let s = d .before .before in
+    let l = s .before .before in
+    let a = d .unsigned2 in
+    let b = s .unsigned in
     let next = again _ _ _ (l .loop-test .taken) in
+    let inv = l .before .loop .inv .1 in
     ⊎-elim
-    (λ w. (omega arith, next (if-true _ (r ∙ w .0 .taken) (w .1)) (l .before .loop .inv .1)))
-    (λ w. (omega arith, next (if-false _ (r ∙ w .0 .left) (w .1)) (l .before .loop .inv .1)))
+    (λ w. (omega arith, next (if-true _ (ranked-least _ _ _ _ (a .ensures) (b .ensures) (w .0 .taken)) (w .1)) inv))
+    (⊎-elim
+    (λ w. (omega arith, next (if-true _ (ranked-nan _ _ _ _ (a .ensures) (b .ensures) (w .1 .taken)) (w .2)) inv))
+    (λ w. (omega arith, next (if-false _ (ranked-not _ _ _ _ (a .ensures) (b .ensures) (w .0 .left) (w .1 .left)) (w .2)) inv)))
     (c .if1 .came)
 
 returns : tie.Need-returns Inv-loop μ-loop
@@ -56,7 +61,6 @@ pivot-row-spec =
     (λ c κs. search needs)
     (λ c. omega arith)
     (λ c. omega arith)
-    (λ c κs. search needs)
     (λ c κs. search needs)
     (λ c. omega arith)
     (λ c. omega arith)
