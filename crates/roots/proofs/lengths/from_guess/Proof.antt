@@ -1,7 +1,6 @@
 -- `roots::lengths::from_guess` meets its contract. Assumes nothing.
 use mathlib.Core.Path.{sym, _∙_, ap, subst}
 use native.Mathlib.Nat.{add-comm}
-use native.Mathlib.Omega.{arith}
 use lib.Dec.{T}
 use lib.Ieee.{binary64, fits}
 use Rattle.laws.proofs.Floats.{self-same}

@@ -1,9 +1,5 @@
 -- `roots::near::is_nearest` meets its contract. Assumes nothing.
-use mathlib.Core.Path.{_≡_, ap, _∙_}
-use Prim.Native.Nat.{ℕ, suc, _+_, _*_, _^_}
 use native.Mathlib.Omega.{arith}
-use lib.Pow.{pow-add}
-use lib.Ieee.{binary64, ofBits}
 use Rattle.laws.proofs.Choices.{false-true}
 use Rattle.roots.proofs.Rounding.{near-one, near-two}
 use borrow.Author.Needs.{needs}
