@@ -1,16 +1,12 @@
 -- Laws of the definitions that the functions' proofs and the callers' cite. Assumes nothing.
 use mathlib.Core.Path.{_≡_, refl, sym, ap, ap₂, subst, fun-ext, _∙_}
-use mathlib.Core.Logic.{⊎-elim}
 use mathlib.Core.Bool.{Bool, true, false, cond}
 use mathlib.Core.List.{List}
-use Prim.Native.Nat.{ℕ, zero, suc, _+_, _-_, _<_, _≤_}
-use native.Mathlib.Nat.{eq-or-lt-of-le}
+use Prim.Native.Nat.{ℕ, _+_, _-_, _<_, _≤_}
 use native.Mathlib.Omega.{arith}
-use lib.ListN.{length, set, length-set}
-use lib.Seq.{getD-set-same, getD-set-other}
+use lib.ListN.{length}
 use lib.Ieee.{Float, nan}
-use borrow.Author.Tests.{le-leb, eq-eqb, leb-true, eqb-true}
-use Rattle.laws.specs.Loop.{turns}
+use borrow.Author.Tests.{le-leb, leb-true, eqb-true}
 use Rattle.laws.specs.Floats.{_+f_, _*f_, at, finite}
 use Rattle.laws.proofs.Choices.{cond-ind, both}
 use Rattle.laws.proofs.Loops.{for-keeps, for-same}

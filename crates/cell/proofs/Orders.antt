@@ -1,13 +1,13 @@
 -- The order of the 64 faces: each set of at most three of seven constraints stands in it once, and the code's `nextOf` walks it. Computed, not argued. Assumes nothing.
-use mathlib.Core.Path.{_≡_, refl, sym, ap, subst, _∙_}
+use mathlib.Core.Path.{_≡_, refl, sym, subst}
 use mathlib.Core.Bool.{Bool, true, false, _&&_, cond}
-use mathlib.Core.List.{List, [], _∷_, map}
-use Prim.Native.Nat.{ℕ, zero, suc, _+_, _-_, _<_, _≤_}
+use mathlib.Core.List.{List, [], _∷_}
+use Prim.Native.Nat.{ℕ, zero, suc, _+_, _<_, _≤_}
 use native.Mathlib.Nat.{eq-or-lt-of-le, le-of-suc-le-suc, not-suc-le-zero}
 use native.Mathlib.Omega.{arith}
 use mathlib.Core.Logic.{⊎-elim}
 use lib.Dec.{T, eqb, ltb, leb, eqb→eq, ltb→lt, leb→le}
-use lib.ListN.{length, getD}
+use lib.ListN.{length}
 use lib.Ieee.Fits.{and-l, and-r}
 use Rattle.cell.specs.declared.Face.{Face}
 use Rattle.cell.specs.Faces.{sets, setsUpTo, faceOf, faceAt}

@@ -73,7 +73,7 @@ pub struct Cell {
     pub faces: usize,
 }
 
-// The best of all faces, where the empty one does not qualify.
+// The best of all faces, where the empty one does not qualify. One that does not qualify leaves the best where it stands.
 fn best(
     base: &[f64; 36],
     right: &[f64; 6],
@@ -111,7 +111,9 @@ fn best(
     for t in 1..k.faces {
         f = order::next(f, k.n);
         let e = trial::try_face(base, right, g, h, ys, hs, ws, ts, k, pivot, slack, f);
-        b = trial::pick_try(e, b);
+        if e.some {
+            b = trial::pick_try(e, b);
+        }
     }
     b
 }

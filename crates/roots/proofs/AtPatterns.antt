@@ -2,13 +2,13 @@
 use mathlib.Core.Path.{_≡_, refl, sym, ap, _∙_, subst}
 use mathlib.Core.Bool.{Bool, true, false, cond}
 use mathlib.Core.Logic.{_⊎_, inl, inr}
-use Prim.Native.Nat.{ℕ, zero, suc, _+_, _-_, _*_, _/_, _%_, _^_, _≤_, _<_}
+use Prim.Native.Nat.{ℕ, zero, suc, _+_, _*_, _/_, _%_, _^_, _≤_, _<_}
 use native.Mathlib.Nat.{mul-pos, div-add-mod', mod-eq-of-lt, mul-assoc, add-comm}
 use native.Mathlib.Omega.{arith}
 use borrow.Author.Tests.{le-leb, lt-leb}
 use lib.Dec.{T, leb, eqb}
 use lib.Pow.{pow-pos, pow-add}
-use lib.Ieee.{Float, nan, inf, fin, binary64, up, odd, ofFields, ofBits, toBits, fits}
+use lib.Ieee.{Float, nan, inf, fin, binary64, odd, ofFields, ofBits, toBits, fits}
 use lib.Ieee.Exact.{HasValue, odd-sign}
 use Rattle.laws.proofs.Patterns.{of-fields, amount, PartsOf, parted-at, amount-at, mant-pos}
 use Rattle.laws.specs.Floats.{one}
@@ -174,6 +174,9 @@ sides a b g l (inl v) (inr w) = absurd (omega arith)
 sides a b g l (inr v) (inl w) = absurd (omega arith)
 sides a b g l (inr v) (inr w) = rw (v .1, w .1)
 
--- a finite number beside 1
+-- 1 by its parts, and a finite number beside it
+pub one-parts : PartsOf 4607182418800017408 4503599627370496 1022
+one-parts = (refl, refl)
+
 pub beside-one : (x : Float) → T (fits binary64 x) → toBits binary64 x % 2 ^ 63 < 2047 * 2 ^ 52 → rootUnits (sq (amount (toBits binary64 x % 2 ^ 63)) + sq (amount 4607182418800017408)) ≡ hypotOf x one
 beside-one x f h = sym (both x one _ _ _ _ (value x f h) (bits-val 4607182418800017408 (omega arith)))

@@ -259,14 +259,12 @@ module _ (n c e t : ℕ) (F : Floor n (sq (2 ^ e)) t) where
           ap (λ (y : ℕ). ofBits binary64 y) (let g : c ≡ e * 2 ^ 52 + suc (x + 4503599627370495) = omega arith in g)
           ∙ near-around n e 1 e (x + 4503599627370495) t (omega arith) (omega arith) (omega arith) F (omega arith) (omega arith) (omega arith)
 
-  pub near-two : (c - (e + 1) * 2 ^ 52 ≡ 2 ^ 52 → ⊥) → 2 ^ 52 ≤ c - (e + 1) * 2 ^ 52 → c - (e + 1) * 2 ^ 52 < 2 ^ 53 → e ≤ 2000
-      → sq (2 * (c - (e + 1) * 2 ^ 52)) < t + (4 * (c - (e + 1) * 2 ^ 52) - 1) → t < sq (2 * (c - (e + 1) * 2 ^ 52)) + (4 * (c - (e + 1) * 2 ^ 52) - 1)
+  pub near-two : (e + 2) * 2 ^ 52 < c → c - (e + 2) * 2 ^ 52 + 2 ^ 52 < 2 ^ 53 → e ≤ 2000
+      → sq (2 * (c - (e + 2) * 2 ^ 52 + 2 ^ 52)) < t + (4 * (c - (e + 2) * 2 ^ 52 + 2 ^ 52) - 1) → t < sq (2 * (c - (e + 2) * 2 ^ 52 + 2 ^ 52)) + (4 * (c - (e + 2) * 2 ^ 52 + 2 ^ 52) - 1)
       → ofBits binary64 c ≡ rootUnits n
-  near-two d l s j a b = go (c - (e + 1) * 2 ^ 52 - 1) (let g : suc (c - (e + 1) * 2 ^ 52 - 1) ≡ c - (e + 1) * 2 ^ 52 = omega arith in g) a b
+  near-two l s j a b = go (c - (e + 2) * 2 ^ 52) refl a b
     where
-      go : (x : ℕ) → suc x ≡ c - (e + 1) * 2 ^ 52 → sq (2 * (c - (e + 1) * 2 ^ 52)) < t + (4 * (c - (e + 1) * 2 ^ 52) - 1) → t < sq (2 * (c - (e + 1) * 2 ^ 52)) + (4 * (c - (e + 1) * 2 ^ 52) - 1) → ofBits binary64 c ≡ rootUnits n
+      go : (x : ℕ) → c - (e + 2) * 2 ^ 52 ≡ x → sq (2 * (x + 2 ^ 52)) < t + (4 * (x + 2 ^ 52) - 1) → t < sq (2 * (x + 2 ^ 52)) + (4 * (x + 2 ^ 52) - 1) → ofBits binary64 c ≡ rootUnits n
       go x h a b =
-          let a′ : sq (2 * suc x) < t + (4 * suc x - 1) = subst (λ (y : ℕ). sq (2 * y) < t + (4 * y - 1)) (sym h) a in
-          let b′ : t < sq (2 * suc x) + (4 * suc x - 1) = subst (λ (y : ℕ). t < sq (2 * y) + (4 * y - 1)) (sym h) b in
-          ap (λ (y : ℕ). ofBits binary64 y) (let g : c ≡ (e + 1) * 2 ^ 52 + suc x = omega arith in g)
-          ∙ near-around n e 2 (e + 1) x t (pow-add 2 e 1) (omega (arith, a′)) (omega (arith, b′)) F (omega arith) (omega arith) (omega arith)
+          ap (λ (y : ℕ). ofBits binary64 y) (let g : c ≡ (e + 1) * 2 ^ 52 + suc (x + 4503599627370495) = omega arith in g)
+          ∙ near-around n e 2 (e + 1) (x + 4503599627370495) t (pow-add 2 e 1) (omega arith) (omega arith) F (omega arith) (omega arith) (omega arith)

@@ -10,7 +10,7 @@ use Rattle.laws.proofs.Choices.{false-true}
 use Rattle.laws.proofs.Values.{finite-value, below-zero}
 use Rattle.roots.specs.Root.{rootOf, rootMag}
 use Rattle.roots.specs.Hypot.{hypotOf}
-use Rattle.roots.proofs.AtPatterns.{root-val, mag-neg, inf-right, nan-right}
+use Rattle.roots.proofs.AtPatterns.{root-val, mag-neg, inf-left, inf-right, nan-right}
 
 pub root-nan : rootOf nan ≡ nan
 unfolding rootOf
@@ -41,8 +41,7 @@ root-negative (inf false) f h = false-true h
 root-negative (fin s m e) f h = let v = finite-value (fin s m e) f refl in negative-value (fin s m e) _ _ v (below-zero (fin s m e) _ _ h v)
 
 pub hypot-infinity-left : (s : Bool) (y : Float) → hypotOf (inf s) y ≡ inf false
-unfolding hypotOf
-hypot-infinity-left s y = refl
+hypot-infinity-left = inf-left
 
 pub hypot-infinity-right : (x : Float) (s : Bool) → hypotOf x (inf s) ≡ inf false
 hypot-infinity-right = inf-right

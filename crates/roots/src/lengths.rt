@@ -10,7 +10,8 @@ ghost use Rattle.laws.proofs.Patterns.{amount};
 ghost use Rattle.roots.specs.Root.{rootUnits, sq};
 ghost use Rattle.roots.specs.Hypot.{hypotOf, withOneOf};
 use crate::near::inverse;
-use crate::near::is_nearest;
+use crate::near::nearest_by_one;
+use crate::near::nearest_by_two;
 use crate::near::refined;
 use crate::pattern::parts_of;
 use crate::wide::joined;
@@ -49,22 +50,41 @@ fn guesses(ys: &[f64; 256], n: usize, hs: &mut [f64; 256])
     }
 }
 
-// The pattern of the root of the sum of two squares, by the patterns of the numbers, the larger first: c where it is that, else worked out.
-fn near_bits(a: u64, b: u64, c: u64) -> u64
-    requires { ⌜ (b ≤ a) × (a < 2047 * 2 ^ 52) × (b ≤ 1023 * 2 ^ 52) ⌝ }
-    ensures { λ r. ⌜ (r ≤ 2047 * 2 ^ 52) × (ofBits binary64 r ≡ rootUnits (sq (amount a) + sq (amount b))) ⌝ }
+// The pattern of the hypotenuse with 1 of a number below 1, by its pattern: c where it is that, else worked out.
+fn below_one(a: u64, c: u64) -> u64
+    requires { ⌜ a < 1023 * 2 ^ 52 ⌝ }
+    ensures { λ r. ⌜ (r ≤ 2047 * 2 ^ 52) × (ofBits binary64 r ≡ rootUnits (sq (amount 4607182418800017408) + sq (amount a))) ⌝ }
+{
+    let y = parts_of(a);
+    let d = 1022 - y.e;
+    if 27 <= d {
+        return 4607182418800017408;
+    }
+    let t = joined(4503599627370496, y.m, d);
+    if nearest_by_one(c, 1022, t.hi, t.lo) {
+        return c;
+    }
+    crate::hypot_bits(4607182418800017408, a)
+}
+
+// The same of a number from 1 on.
+fn from_one(a: u64, c: u64) -> u64
+    requires { ⌜ (1023 * 2 ^ 52 ≤ a) × (a < 2047 * 2 ^ 52) ⌝ }
+    ensures { λ r. ⌜ (r ≤ 2047 * 2 ^ 52) × (ofBits binary64 r ≡ rootUnits (sq (amount a) + sq (amount 4607182418800017408))) ⌝ }
 {
     let x = parts_of(a);
-    let y = parts_of(b);
-    let d = x.e - y.e;
+    let d = x.e - 1022;
     if 27 <= d {
         return a;
     }
-    let t = joined(x.m, y.m, d);
-    if is_nearest(c, x.e, t.hi, t.lo) {
+    let t = joined(x.m, 4503599627370496, d);
+    if nearest_by_one(c, x.e, t.hi, t.lo) {
         return c;
     }
-    crate::hypot_bits(a, b)
+    if nearest_by_two(c, x.e, t.hi, t.lo) {
+        return c;
+    }
+    crate::hypot_bits(a, 4607182418800017408)
 }
 
 // The hypotenuse of y with 1: the guess where it is that, else worked out.
@@ -83,9 +103,9 @@ fn from_guess(y: f64, guess: f64) -> f64
     }
     let c = f64::to_bits(guess);
     if a < 4607182418800017408 {
-        return f64::from_bits(near_bits(4607182418800017408, a, c));
+        return f64::from_bits(below_one(a, c));
     }
-    f64::from_bits(near_bits(a, 4607182418800017408, c))
+    f64::from_bits(from_one(a, c))
 }
 
 fn from_guesses(ys: &[f64; 256], n: usize, hs: &mut [f64; 256])

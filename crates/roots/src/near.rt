@@ -65,8 +65,8 @@ pub(crate) fn within(q: u64, g: u64, hi: u64, lo: u64) -> bool
 }
 
 // Whether c is the pattern of the value nearest to the root of a number that is hi * 2 ^ 54 + lo times (2 ^ e) ^ 2, or less than one (2 ^ e) ^ 2 more.
-// Past `first`, the pattern of 2 ^ 52 * 2 ^ e, patterns count by 2 ^ e up to twice that value, and then by two of them. Powers of two have neighbours at two distances: no.
-pub(crate) fn is_nearest(c: u64, e: u64, hi: u64, lo: u64) -> bool
+// Past `first`, the pattern of 2 ^ 52 * 2 ^ e, patterns count by 2 ^ e up to twice that value. `first` itself has neighbours at two distances: no.
+pub(crate) fn nearest_by_one(c: u64, e: u64, hi: u64, lo: u64) -> bool
     requires { ⌜ (e ≤ 2000) × (hi < 2 ^ 55) × (lo < 2 ^ 54) ⌝ }
     ensures { λ r. ⌜ (r ≡ true → (c < (e + 3) * 2 ^ 52) × ((n : ℕ) → Floor n (sq (2 ^ e)) (hi * 2 ^ 54 + lo) → ofBits binary64 c ≡ rootUnits n)) ⌝ }
 {
@@ -75,12 +75,22 @@ pub(crate) fn is_nearest(c: u64, e: u64, hi: u64, lo: u64) -> bool
         return false;
     }
     let v = c - first;
-    if v < 4503599627370496 {
-        return within(v + 4503599627370496, v + 4503599627370495, hi, lo);
-    }
-    if v == 4503599627370496 {
+    if 4503599627370496 <= v {
         return false;
     }
+    within(v + 4503599627370496, v + 4503599627370495, hi, lo)
+}
+
+// The same from twice that value on, where patterns count by twice 2 ^ e.
+pub(crate) fn nearest_by_two(c: u64, e: u64, hi: u64, lo: u64) -> bool
+    requires { ⌜ (e ≤ 2000) × (hi < 2 ^ 55) × (lo < 2 ^ 54) ⌝ }
+    ensures { λ r. ⌜ (r ≡ true → (c < (e + 3) * 2 ^ 52) × ((n : ℕ) → Floor n (sq (2 ^ e)) (hi * 2 ^ 54 + lo) → ofBits binary64 c ≡ rootUnits n)) ⌝ }
+{
+    let first = (e + 2) * 4503599627370496;
+    if c <= first {
+        return false;
+    }
+    let v = c - first + 4503599627370496;
     if 9007199254740992 <= v {
         return false;
     }

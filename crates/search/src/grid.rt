@@ -1,6 +1,5 @@
 // A pass: the best cell of a window's grid.
 ghost use mathlib.Core.Path.{_≡_};
-ghost use mathlib.Core.Bool.{cond};
 ghost use Prim.Native.Nat.{_^_, _≤_, _<_};
 ghost use lib.ListN.{length};
 ghost use Rattle.laws.specs.Room.{filledOn};
@@ -42,31 +41,35 @@ fn cell_at(
     cell::inner_on(ks, ws, ts, l, m, sigma, ys, hs)
 }
 
-fn pick_cell(c: bool, a: Cell, b: Cell) -> Cell
-    ensures { λ r. ⌜ r ≡ cond c a b ⌝ }
-{
-    if c { a } else { b }
-}
-
 fn better_than(c: Cell, b: Cell) -> bool
     ensures { λ r. ⌜ r ≡ better c b ⌝ }
 {
     c.some & (!b.some | (c.objective < b.objective))
 }
 
+// The best so far is left where it stands unless the cell wins.
 fn considered(b: PassBest, c: Cell, i: usize, j: usize) -> PassBest
     requires { ⌜ (b .cells < 2 ^ 60) × (b .faces < 2 ^ 60) × (c .faces < 2 ^ 60) ⌝ }
     ensures { λ r. ⌜ r ≡ consider b c i j ⌝ }
 {
+    let cells = b.cells + 1;
+    let faces = b.faces + c.faces;
     let old = b.cell;
-    let wins = better_than(c, old);
-    let cell = pick_cell(wins, c, old);
+    if better_than(c, old) {
+        return PassBest {
+            cell: c,
+            i,
+            j,
+            cells,
+            faces,
+        };
+    }
     PassBest {
-        cell,
-        i: bits::pick_count(wins, i, b.i),
-        j: bits::pick_count(wins, j, b.j),
-        cells: b.cells + 1,
-        faces: b.faces + c.faces,
+        cell: old,
+        i: b.i,
+        j: b.j,
+        cells,
+        faces,
     }
 }
 

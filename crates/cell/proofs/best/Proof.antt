@@ -1,5 +1,6 @@
 -- `cell::best` meets its contract. The face at hand is the one before face t. Assumes nothing.
 use mathlib.Core.Path.{_≡_, refl, sym, ap, _∙_}
+use mathlib.Core.Logic.{⊎-elim}
 use Prim.Native.Nat.{_+_, _-_, _≤_}
 use native.Mathlib.Omega.{arith}
 use borrow.Author.Needs.{needs}
@@ -43,7 +44,8 @@ try-face-requires c κs =
 
 loop-again : tie.Need-loop-again Inv-loop μ-loop
 loop-again c =
-    let n = c .before .before in
+    let d = c .before in
+    let n = d .before in
     let l = n .before .before .loop in
     let a = n .before .before .before .before .before .args in
     let P = n .before .before .before .before .before .pre .0 .0 in
@@ -51,8 +53,12 @@ loop-again c =
     let p = problem (a .k .u) (a .k .n) (a .base .now) (a .right .now) (a .g .now) (a .h .now) (a .pivot) (a .slack) in
     let e = stepped P (l .t) (l .f) (n .next .result) (l .inv .0) (n .before .loop-test .taken) (l .inv .2) (n .next .ensures) in
     let k : l .t ≡ l .t + 1 - 1 = omega arith in
-    let d = c .pick-try .ensures ∙ ap (λ (t : Tried). pickOf t (l .b)) (c .before .try-face .ensures ∙ ap (tryOf o p) e) in
-    (omega arith, omega arith, e ∙ ap (faceAt (a .k .u) (a .k .n)) k, again _ _ _ (n .before .loop-test .taken) d (l .inv .3))
+    let tried = ap (λ (t : Tried). pickOf t (l .b)) (d .try-face .ensures ∙ ap (tryOf o p) e) in
+    let next = again _ _ _ (n .before .loop-test .taken) in
+    ⊎-elim
+    (λ w. (omega arith, omega arith, e ∙ ap (faceAt (a .k .u) (a .k .n)) k, next (w .2 ∙ w .1 .ensures ∙ tried) (l .inv .3)))
+    (λ w. (omega arith, omega arith, e ∙ ap (faceAt (a .k .u) (a .k .n)) k, next (w .1 ∙ passed-over (d .try-face .result) (l .b) (w .0 .left) ∙ tried) (l .inv .3)))
+    (c .if1 .came)
 
 returns : tie.Need-returns Inv-loop μ-loop
 returns c = ended _ _ _ (c .loop-test .left) (c .before .loop .inv .3)

@@ -1,7 +1,6 @@
 -- `roots::lengths::from_guess` meets its contract. Assumes nothing.
 use mathlib.Core.Path.{sym, _∙_, ap, subst}
 use native.Mathlib.Nat.{add-comm}
-use native.Mathlib.Omega.{arith}
 use lib.Dec.{T}
 use lib.Ieee.{binary64, fits}
 use Rattle.laws.proofs.Floats.{self-same}
@@ -14,7 +13,8 @@ use Rattle.roots.proofs.lengths.from_guess.Tie as tie
 use Rattle.roots.proofs.lengths.from_guess.Reads as reads
 use Rattle.roots.proofs.lengths.from_guess.Lts as lts
 use Rattle.roots.proofs.hypot.Reads as hypot-reads
-use Rattle.roots.proofs.lengths.near_bits.Reads as near-bits-reads
+use Rattle.roots.proofs.lengths.below_one.Reads as below-one-reads
+use Rattle.roots.proofs.lengths.from_one.Reads as from-one-reads
 
 held : (c : tie.Start) → T (fits binary64 (c .args .y))
 held c = subst T (sym (c .good .0 .1)) tt
@@ -43,23 +43,23 @@ returns-3 c = search needs
 float-to-bits-c : tie.Need-float-to-bits-c
 float-to-bits-c c = self-same _ (c .before .if2 .left)
 
-near-bits-requires : tie.Need-near-bits-requires
-near-bits-requires c κs = search needs
+below-one-requires : tie.Need-below-one-requires
+below-one-requires c κs = search needs
 
 float-from-bits-result : tie.Need-float-from-bits-result
-float-from-bits-result c = below-nan (c .near-bits .result) (c .near-bits .ensures .0)
+float-from-bits-result c = below-nan (c .below-one .result) (c .below-one .ensures .0)
 
 returns-4 : tie.Need-returns-4
-returns-4 c = c .near-bits .ensures .1 ∙ ap rootUnits (add-comm _ _) ∙ beside-one (c .before .before .before .before .before .args .y) (held (c .before .before .before .before .before)) (c .before .before .if3 .left)
+returns-4 c = c .below-one .ensures .1 ∙ ap rootUnits (add-comm _ _) ∙ beside-one (c .before .before .before .before .before .args .y) (held (c .before .before .before .before .before)) (c .before .before .if3 .left)
 
-near-bits-requires-2 : tie.Need-near-bits-requires-2
-near-bits-requires-2 c κs = search needs
+from-one-requires : tie.Need-from-one-requires
+from-one-requires c κs = search needs
 
 float-from-bits-result-2 : tie.Need-float-from-bits-result-2
-float-from-bits-result-2 c = below-nan (c .near-bits2 .result) (c .near-bits2 .ensures .0)
+float-from-bits-result-2 c = below-nan (c .from-one .result) (c .from-one .ensures .0)
 
 returns-5 : tie.Need-returns-5
-returns-5 c = c .near-bits2 .ensures .1 ∙ beside-one (c .before .before .before .before .before .args .y) (held (c .before .before .before .before .before)) (c .before .before .if3 .left)
+returns-5 c = c .from-one .ensures .1 ∙ beside-one (c .before .before .before .before .before .args .y) (held (c .before .before .before .before .before)) (c .before .before .if3 .left)
 
 pub from-guess-spec : {M : Type 1} → statement M
 from-guess-spec =
@@ -73,9 +73,9 @@ from-guess-spec =
     hypot-requires-3
     returns-3
     float-to-bits-c
-    near-bits-requires
+    below-one-requires
     float-from-bits-result
     returns-4
-    near-bits-requires-2
+    from-one-requires
     float-from-bits-result-2
     returns-5)

@@ -1,5 +1,4 @@
 -- `roots::lengths::numbered` meets its contract. Assumes nothing.
-use lib.Ieee.{ofBits, isNan}
 use Rattle.laws.proofs.Floats.{self-same}
 use borrow.Author.Needs.{needs}
 use Rattle.roots.proofs.lengths.numbered.Statement.{statement}

@@ -1,5 +1,4 @@
 -- `roots::near::within` meets its contract. Assumes nothing.
-use native.Mathlib.Omega.{arith}
 use Rattle.laws.proofs.Choices.{false-true}
 use borrow.Author.Needs.{needs}
 use Rattle.roots.proofs.near.within.Statement.{statement}
