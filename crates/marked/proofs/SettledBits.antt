@@ -2,6 +2,7 @@
 use Prim.Native.Nat.{_<_, ℕ}
 use Rattle.bits.specs.Bytes.{u32At, u64At}
 use Rattle.laws.proofs.Choices.{settled}
+use Rattle.laws.proofs.Floats.{unsigned as unsignedOf}
 use Rattle.laws.specs.Floats.{absOf, finite, maxOf, minOf}
 use lib.Ieee.{Float, binary64, ofBits, toBits}
 use mathlib.Core.Bool.{Bool, cond}
@@ -19,6 +20,10 @@ pick-number c a b h₁ h₂ = settled h₁ h₂
 -- bits::pick_count
 pub pick-count : (c : Bool) (a : ℕ) (b : ℕ) {r₁ r₂ : ℕ} → (r₁ ≡ cond c a b) → (r₂ ≡ cond c a b) → r₁ ≡ r₂
 pick-count c a b h₁ h₂ = settled h₁ h₂
+
+-- bits::unsigned
+pub unsigned : (x : Float) {r₁ r₂ : Float} → (r₁ ≡ unsignedOf x) → (r₂ ≡ unsignedOf x) → r₁ ≡ r₂
+unsigned x h₁ h₂ = settled h₁ h₂
 
 -- bits::magnitude
 pub magnitude : (x : Float) {r₁ r₂ : Float} → (r₁ ≡ absOf x) → (r₂ ≡ absOf x) → r₁ ≡ r₂
