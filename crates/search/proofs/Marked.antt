@@ -1,5 +1,5 @@
 -- M3 of document 01.
-use mathlib.Core.Path.{refl}
+use mathlib.Core.Path.{_≡_, refl}
 use mathlib.Core.List.{List, [], _∷_}
 use Prim.Native.Nat.{ℕ}
 use lib.Ieee.{Float, ofBits, ofInt, add, sub, mul, div}
