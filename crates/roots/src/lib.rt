@@ -70,7 +70,7 @@ pub fn sqrt(x: f64) -> f64
     if m < 4503599627370496 {
         let n = shift_up(m);
         let by = n.by;
-        return f64::from_bits(scaled(n.m, 1022 - by));
+        return f64::from_bits(from_whole(n.m, 1022 - by));
     }
     f64::from_bits(scaled(m, e + 1022))
 }

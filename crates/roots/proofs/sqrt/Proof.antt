@@ -16,6 +16,7 @@ use Rattle.roots.proofs.sqrt.Tie as tie
 use Rattle.roots.proofs.sqrt.Reads as reads
 use Rattle.roots.proofs.sqrt.Lts as lts
 use Rattle.roots.proofs.pattern.parts_of.Reads as parts-of-reads
+use Rattle.roots.proofs.from_whole.Reads as from-whole-reads
 use Rattle.roots.proofs.scaled.Reads as scaled-reads
 use Rattle.roots.proofs.pattern.shift_up.Reads as shift-up-reads
 
@@ -64,33 +65,33 @@ parts-of-requires c κs = search needs
 shift-up-requires : tie.Need-shift-up-requires
 shift-up-requires c κs = (mant-pos (parts (c .before)) (positive (c .before)), c .if5 .taken)
 
-sub-scaled : tie.Need-sub-scaled
-sub-scaled c = search needs
+sub-from-whole : tie.Need-sub-from-whole
+sub-from-whole c = search needs
 
-scaled-requires : tie.Need-scaled-requires
-scaled-requires c κs = search needs
+from-whole-requires : tie.Need-from-whole-requires
+from-whole-requires c κs = search needs
 
 float-from-bits-result : tie.Need-float-from-bits-result
-float-from-bits-result c = below-nan (c .scaled .result) (c .scaled .ensures .1)
+float-from-bits-result c = below-nan (c .from-whole .result) (c .from-whole .ensures .1)
 
 returns-5 : tie.Need-returns-5
 returns-5 c =
     let z = low-expo (parts (c .before .before .before)) (c .before .before .if5 .taken) in
-    c .scaled .ensures .0
+    c .from-whole .ensures .0
     ∙ root-at (c .before .before .before .before .before .before .before .before .args .x) (held (c .before .before .before .before .before .before .before .before)) (c .before .before .before .before .if4 .left) (positive (c .before .before .before)) _ _ _ _ _ (c .before .before .before .parts-of .ensures) (c .before .shift-up .ensures .0) (omega arith)
 
 add-scaled : tie.Need-add-scaled
 add-scaled c = omega (arith, expo-le (parts (c .before)) (c .before .before .if4 .left))
 
-scaled-requires-2 : tie.Need-scaled-requires-2
-scaled-requires-2 c κs = omega (arith, expo-le (parts (c .before)) (c .before .before .if4 .left), parts (c .before) .small)
+scaled-requires : tie.Need-scaled-requires
+scaled-requires c κs = omega (arith, expo-le (parts (c .before)) (c .before .before .if4 .left), parts (c .before) .small)
 
 float-from-bits-result-2 : tie.Need-float-from-bits-result-2
-float-from-bits-result-2 c = below-nan (c .scaled2 .result) (c .scaled2 .ensures .1)
+float-from-bits-result-2 c = below-nan (c .scaled .result) (c .scaled .ensures .1)
 
 returns-6 : tie.Need-returns-6
 returns-6 c =
-    c .scaled2 .ensures .0
+    c .scaled .ensures .0
     ∙ root-at (c .before .before .before .before .before .before .before .args .x) (held (c .before .before .before .before .before .before .before)) (c .before .before .before .if4 .left) (positive (c .before .before)) _ _ _ 0 _ (c .before .before .parts-of .ensures) (omega arith) (omega arith)
 
 pub sqrt-spec : {M : Type 1} → statement M
@@ -104,11 +105,11 @@ sqrt-spec =
     returns-4
     parts-of-requires
     shift-up-requires
-    sub-scaled
-    scaled-requires
+    sub-from-whole
+    from-whole-requires
     float-from-bits-result
     returns-5
     add-scaled
-    scaled-requires-2
+    scaled-requires
     float-from-bits-result-2
     returns-6)
