@@ -1,16 +1,14 @@
 -- What a caller may rely on without looking into the elimination: every number handed back is finite, what is no unknown is +0, and a refusal is all +0. Assumes nothing.
-use mathlib.Core.Path.{_≡_, refl, sym, ap, subst, _∙_}
+use mathlib.Core.Path.{_≡_, refl, sym, ap, _∙_}
 use mathlib.Core.Bool.{Bool, true, false, cond}
 use mathlib.Core.List.{List}
-use Prim.Native.Nat.{ℕ, _+_, _-_, _<_, _≤_}
+use Prim.Native.Nat.{ℕ, _-_, _<_, _≤_}
 use native.Mathlib.Omega.{arith}
-use native.Mathlib.Nat.{eq-or-lt-of-le}
 use lib.Dec.{eqb, leb}
 use lib.ListN.{length, set, replicate, getD-replicate, length-set, length-replicate}
 use lib.Seq.{getD-set-same, getD-set-other}
 use lib.Ieee.{Float, nan, ofBits}
 use borrow.Author.Tests.{eqb-true, eqb-false, leb-true}
-use Rattle.laws.specs.Loop.{for}
 use Rattle.laws.specs.Choice.{unless}
 use Rattle.laws.specs.Floats.{+0, _-f_, _*f_, _/f_, at, finite, positive}
 use Rattle.laws.proofs.Loops.{for-keeps}

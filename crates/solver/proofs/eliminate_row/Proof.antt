@@ -1,5 +1,5 @@
 -- `solver::eliminate_row` meets its contract. Assumes nothing.
-use mathlib.Core.Path.{_≡_, refl}
+use mathlib.Core.Path.{refl}
 use Rattle.solver.specs.Solve.{rowDone}
 use Rattle.laws.proofs.Choices.{if-true, if-false}
 use borrow.Author.Needs.{needs}

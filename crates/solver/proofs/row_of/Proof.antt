@@ -1,6 +1,6 @@
 -- `solver::row_of` meets its contract. Assumes nothing.
 use mathlib.Core.Path.{_≡_, refl}
-use Prim.Native.Nat.{_-_, _≤_}
+use Prim.Native.Nat.{_-_}
 use lib.ListN.{set}
 use Rattle.solver.specs.Solve.{entry, rowOf}
 use Rattle.laws.specs.Loop.{for}

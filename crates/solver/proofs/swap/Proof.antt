@@ -1,5 +1,4 @@
 -- `solver::swap` meets its contract. Assumes nothing.
-use mathlib.Core.Path.{refl}
 use borrow.Author.Needs.{needs}
 use Rattle.solver.proofs.Steps.{swapped-self}
 use Rattle.solver.proofs.swap.Statement.{statement}
