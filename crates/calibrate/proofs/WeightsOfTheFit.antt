@@ -11,11 +11,10 @@ use lib.Ieee.{Float, le}
 use Rattle.laws.specs.Floats.{+0, at, finite, positive}
 use Rattle.laws.proofs.Choices.{both, passed-one}
 use Rattle.laws.proofs.Floats.{finite-no-nan}
-use Rattle.laws.proofs.Loops.{for-ind}
+use Rattle.laws.proofs.Loops.{for-ind, below-next}
 use Rattle.weights.specs.Weights.{sortOf, scaledOf}
 use Rattle.weights.proofs.Sorted.{Number, each-at, Rising, rising-sort}
 use Rattle.weights.proofs.Shares.{Shares, shares}
-use Rattle.search.proofs.Passes.{below-next}
 use Rattle.calibrate.specs.declared.FitConfig.{FitConfig}
 use Rattle.calibrate.specs.Entry.{lengthsHold, sizesHold, passes, allPass, checksNumber, entryNumber}
 use Rattle.calibrate.proofs.Known.{passed, entered}

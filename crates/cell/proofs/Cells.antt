@@ -1,19 +1,20 @@
 -- What holds of a cell, whatever its problem: it tries one face or all; where it yields something the objective is finite, no face that it tried and that qualifies has a smaller one,
 -- it is one of the faces tried, and of equal ones the first. Assumes nothing.
 use mathlib.Core.Path.{_≡_, refl, sym, ap, subst, _∙_}
-use mathlib.Core.Logic.{_⊎_, inl, inr, ⊎-elim}
+use mathlib.Core.Logic.{_⊎_, inl, inr}
 use mathlib.Core.Bool.{Bool, true, false, not, _&&_, _||_, cond}
 use mathlib.Core.List.{List}
-use Prim.Native.Nat.{ℕ, _+_, _<_, _≤_}
-use native.Mathlib.Nat.{eq-or-lt-of-le}
+use Prim.Native.Nat.{ℕ, _+_, _<_}
 use native.Mathlib.Omega.{arith}
 use lib.Dec.{T}
 use lib.Ieee.{Float, lt, le}
 use Rattle.laws.specs.Floats.{finite}
 use Rattle.laws.proofs.Choices.{cond-ind}
 use Rattle.laws.proofs.Floats.{finite-no-nan}
-use Rattle.laws.proofs.Loops.{for-ind}
-use Rattle.laws.proofs.Order.{lt-le-trans, lt-not-self, lt→le, lt-or}
+use Rattle.laws.proofs.Loops.{for-ind, below-next}
+use Rattle.laws.proofs.Better as Better
+use Rattle.laws.proofs.Better.{taken-new, taken-old}
+use Rattle.laws.proofs.Order.{lt-le-trans, lt-not-self, lt-or}
 use Rattle.cell.specs.declared.Model.{Model}
 use Rattle.cell.specs.declared.Limits.{Limits}
 use Rattle.cell.specs.declared.Tried.{Tried}
@@ -26,33 +27,19 @@ use Rattle.cell.proofs.Laws.{try-ind}
 -- ---- the better of two
 
 -- b is as good as t: where t qualifies, b does too, and t's objective is not below b's
-pub record AsGood (b t : Tried) : Type 0 where
-  pub has : T (t .some) → T (b .some)
-  pub least : T (t .some) → T (lt (t .objective) (b .objective)) → ⊥
+abbrev pub AsGood : Tried → Tried → Type 0
+AsGood = Better.AsGood (λ (t : Tried). t .some) (λ (t : Tried). t .objective)
 
 abbrev Fine : Tried → Type 0
 Fine t = T (t .some) → finite (t .objective) ≡ true
 
 pick-new : (t b : Tried) → AsGood (pickOf t b) t
 unfolding pickOf
-pick-new t b = go (t .some) (b .some) (lt (t .objective) (b .objective)) refl refl refl
-  where
-    go : (x y z : Bool) → t .some ≡ x → b .some ≡ y → lt (t .objective) (b .objective) ≡ z → AsGood (cond (x && (not y || z)) t b) t
-    go false y z p q r = record { has = λ h. absurd (rw p at h); least = λ h. absurd (rw p at h) }
-    go true false z p q r = record { has = λ h. h; least = λ h. lt-not-self (t .objective) }
-    go true true true p q r = record { has = λ h. h; least = λ h. lt-not-self (t .objective) }
-    go true true false p q r = record { has = λ h. rw q tt; least = λ h k. rw r at k }
+pick-new = taken-new (λ (t : Tried). t .some) (λ (t : Tried). t .objective)
 
 pick-old : (t b x : Tried) → AsGood b x → AsGood (pickOf t b) x
 unfolding pickOf
-pick-old t b x g = go (t .some) (b .some) (lt (t .objective) (b .objective)) refl refl refl
-  where
-    go : (u y z : Bool) → t .some ≡ u → b .some ≡ y → lt (t .objective) (b .objective) ≡ z → AsGood (cond (u && (not y || z)) t b) x
-    go false y z p q r = g
-    go true false z p q r = record { has = λ h. rw p tt; least = λ h. absurd (rw q at (g .has h)) }
-    go true true true p q r =
-        record { has = λ h. rw p tt; least = λ h k. g .least h (lt-le-trans (x .objective) (t .objective) (b .objective) k (lt→le _ _ (rw r tt))) }
-    go true true false p q r = g
+pick-old = taken-old (λ (t : Tried). t .some) (λ (t : Tried). t .objective)
 
 at-most : (b x : Tried) → Fine b → Fine x → AsGood b x → T (b .some) → T (x .some) → T (le (b .objective) (x .objective))
 at-most b x fb fx g p q = go (le (b .objective) (x .objective)) (lt-or (b .objective) (x .objective) (finite-no-nan _ (fb p)) (finite-no-nan _ (fx q)))
@@ -79,12 +66,7 @@ module _ (f : ℕ → Tried) (fine : (t : ℕ) → Fine (f t)) where
   step j b L = record { as-good = all; first = go (f j .some) (b .some) (lt (f j .objective) (b .objective)) refl refl refl }
     where
       all : (s : ℕ) → s < j + 1 → AsGood (pickOf (f j) b) (f s)
-      all s l =
-          ⊎-elim (λ (e : s ≡ j). subst (λ (s : ℕ). AsGood (pickOf (f j) b) (f s)) (sym e) (pick-new (f j) b))
-          (λ h. pick-old (f j) b (f s) (L .as-good s h)) (eq-or-lt-of-le (below s l))
-        where
-          below : (s : ℕ) → s < j + 1 → s ≤ j
-          below s l = omega arith
+      all = below-next (λ (s : ℕ). AsGood (pickOf (f j) b) (f s)) j (λ s h. pick-old (f j) b (f s) (L .as-good s h)) (pick-new (f j) b)
 
       stays : T (b .some) → (t : ℕ) × FirstAt (j + 1) b t
       stays h =

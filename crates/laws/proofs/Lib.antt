@@ -1,6 +1,7 @@
 pub mod Choices
 pub mod Loops
 pub mod Order
+pub mod Better
 pub mod Floats
 pub mod Comparing
 pub mod Patterns

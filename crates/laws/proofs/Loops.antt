@@ -1,9 +1,10 @@
 -- The laws of `for` and `first`: a loop's invariant is "what is left to do, done to the present state, is the whole". Assumes nothing.
-use mathlib.Core.Path.{_≡_, refl, sym, ap, _∙_}
+use mathlib.Core.Path.{_≡_, refl, sym, ap, subst, _∙_}
+use mathlib.Core.Logic.{⊎-elim}
 use mathlib.Core.Bool.{Bool, true, false, cond}
 use Prim.Native.Nat.{ℕ, zero, suc, _+_, _-_, _<_, _≤_}
 use native.Mathlib.Omega.{arith}
-use native.Mathlib.Nat.{add-zero, zero-add}
+use native.Mathlib.Nat.{add-zero, zero-add, eq-or-lt-of-le}
 use Rattle.laws.specs.Loop.{turns, for, search-on, first}
 
 module _ {S : Type 0} (f : ℕ → S → S) (i b : ℕ) where
@@ -67,6 +68,12 @@ module _ {S : Type 0} (f : ℕ → S → S) (P : ℕ → S → Type 0) (b : ℕ)
 -- the same of a property that does not speak of the turn
 pub for-keeps : {S : Type 0} (P : S → Type 0) (f : ℕ → S → S) (b : ℕ) → ((i : ℕ) → i < b → (s : S) → P s → P (f i s)) → (s : S) → P s → P (for 0 b f s)
 for-keeps P f b keeps s p = for-ind f (λ (i : ℕ) (t : _). P t) b (λ j t l. keeps j l t) s p
+
+-- what holds below i and at i holds below i + 1
+pub below-next : (P : ℕ → Type 0) (i : ℕ) → ((k : ℕ) → k < i → P k) → P i → (k : ℕ) → k < i + 1 → P k
+below-next P i all here k l =
+    let m : k ≤ i = omega arith in
+    ⊎-elim (λ (e : k ≡ i). subst P (sym e) here) (all k) (eq-or-lt-of-le m)
 
 -- loops whose turns agree agree
 module _ {S : Type 0} (f g : ℕ → S → S) (b : ℕ) (same : (i : ℕ) → i < b → (s : S) → f i s ≡ g i s) where

@@ -6,6 +6,7 @@ use native.Mathlib.Nat.{not-suc-le-zero}
 use lib.Dec.{T}
 use lib.Ieee.{Float, le}
 use Rattle.laws.proofs.Choices.{cond-test, cond-ind, false-true}
+use Rattle.laws.proofs.Loops.{below-next}
 use Rattle.cell.specs.declared.Cell.{Cell}
 use Rattle.search.specs.declared.Window.{Window}
 use Rattle.search.specs.declared.PassBest.{PassBest}
@@ -15,7 +16,7 @@ use Rattle.search.specs.declared.Place.{Place}
 use Rattle.search.specs.declared.Plan.{Plan}
 use Rattle.search.specs.declared.Search.{Search}
 use Rattle.search.specs.Search.{CellFn, passOf, cellAt, placeOf, foundOf, improves, recentred, shrunk, stopped, movedOf, countedOf, refusedOf, stepOf, startOf, afterPasses}
-use Rattle.search.proofs.Passes.{AsGood, Proper, later-old, later-new, pass-new, pass-of, below-next}
+use Rattle.search.proofs.Passes.{AsGood, Proper, later-old, later-new, pass-new, pass-of}
 use Rattle.search.proofs.Trail.{moved-ind, after-ind, trail, passes-after}
 
 T-is : (b : Bool) → T b → b ≡ true

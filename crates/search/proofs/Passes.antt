@@ -1,16 +1,17 @@
 -- One pass: its counts, that its best is as good as each of its cells, and where that stands. Assumes nothing.
-use mathlib.Core.Path.{_≡_, refl, sym, subst}
-use mathlib.Core.Logic.{_⊎_, ⊎-elim}
-use mathlib.Core.Bool.{Bool, true, false, not, _&&_, _||_, cond}
+use mathlib.Core.Path.{_≡_, refl}
+use mathlib.Core.Bool.{Bool, true, false, not, _||_, cond}
 use Prim.Native.Nat.{ℕ, _+_, _*_, _<_}
 use native.Mathlib.Omega.{arith}
-use native.Mathlib.Nat.{not-suc-le-zero, eq-or-lt-of-le, add-mul, one-mul, zero-mul}
+use native.Mathlib.Nat.{not-suc-le-zero, add-mul, one-mul, zero-mul}
 use lib.Dec.{T}
 use lib.Ieee.{Float, lt, le, isNan}
 use Rattle.laws.specs.Loop.{for}
-use Rattle.laws.proofs.Loops.{for-ind, for-keeps}
+use Rattle.laws.proofs.Loops.{for-ind, for-keeps, below-next}
+use Rattle.laws.proofs.Better as Better
+use Rattle.laws.proofs.Better.{taken-new, taken-old}
 use Rattle.laws.proofs.Choices.{cond-ind}
-use Rattle.laws.proofs.Order.{lt-le-trans, lt-not-self, lt-or, lt→le}
+use Rattle.laws.proofs.Order.{lt-le-trans, lt-or, lt→le}
 use Rattle.cell.specs.declared.Cell.{Cell}
 use Rattle.cell.specs.Cell.{noCell}
 use Rattle.search.specs.declared.Window.{Window}
@@ -18,42 +19,21 @@ use Rattle.search.specs.declared.PassBest.{PassBest}
 use Rattle.search.specs.Search.{CellFn, better, consider, noBest, rowOf, passOf, cellAt, improves}
 use Rattle.search.proofs.Sums.{sum, sum-none, sum-next}
 
-pub below : (j i : ℕ) → j < i + 1 → (j ≡ i) ⊎ (j < i)
-below j i l = eq-or-lt-of-le (omega arith)
-
--- what holds below i and at i holds below i + 1
-pub below-next : (P : ℕ → Type 0) (i : ℕ) → ((k : ℕ) → k < i → P k) → P i → (k : ℕ) → k < i + 1 → P k
-below-next P i all here k l = ⊎-elim (λ e. subst P (sym e) here) (all k) (below k i l)
-
 -- ---- the better of two cells
 
 -- b is as good as c: where c has a face, b has one too, and c's objective is not below b's
-pub record AsGood (b c : Cell) : Type 0 where
-  pub has : T (c .some) → T (b .some)
-  pub least : T (c .some) → T (lt (c .objective) (b .objective)) → ⊥
+abbrev pub AsGood : Cell → Cell → Type 0
+AsGood = Better.AsGood (λ (c : Cell). c .some) (λ (c : Cell). c .objective)
 
 -- a cell with a face has an objective that is no NaN
 abbrev pub Proper : Cell → Type 0
 Proper c = T (c .some) → T (not (isNan (c .objective)))
 
 better-new : (c b : Cell) → AsGood (cond (better c b) c b) c
-better-new c b = go (c .some) (b .some) (lt (c .objective) (b .objective)) refl refl refl
-  where
-    go : (x y z : Bool) → c .some ≡ x → b .some ≡ y → lt (c .objective) (b .objective) ≡ z → AsGood (cond (x && (not y || z)) c b) c
-    go false y z p q r = record { has = λ h. absurd (rw p at h); least = λ h. absurd (rw p at h) }
-    go true false z p q r = record { has = λ h. h; least = λ h. lt-not-self (c .objective) }
-    go true true true p q r = record { has = λ h. h; least = λ h. lt-not-self (c .objective) }
-    go true true false p q r = record { has = λ h. rw q tt; least = λ h k. rw r at k }
+better-new = taken-new (λ (c : Cell). c .some) (λ (c : Cell). c .objective)
 
 better-old : (c b x : Cell) → AsGood b x → AsGood (cond (better c b) c b) x
-better-old c b x g = go (c .some) (b .some) (lt (c .objective) (b .objective)) refl refl refl
-  where
-    go : (u y z : Bool) → c .some ≡ u → b .some ≡ y → lt (c .objective) (b .objective) ≡ z → AsGood (cond (u && (not y || z)) c b) x
-    go false y z p q r = g
-    go true false z p q r = record { has = λ h. rw p tt; least = λ h. absurd (rw q at (g .has h)) }
-    go true true true p q r =
-        record { has = λ h. rw p tt; least = λ h k. g .least h (lt-le-trans (x .objective) (c .objective) (b .objective) k (lt→le _ _ (rw r tt))) }
-    go true true false p q r = g
+better-old = taken-old (λ (c : Cell). c .some) (λ (c : Cell). c .objective)
 
 -- ---- the best of the passes so far, b, and a pass's, c, which wins where its objective is at most b's
 

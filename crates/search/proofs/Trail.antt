@@ -10,7 +10,7 @@ use lib.Dec.{ltb}
 use lib.Ieee.{lt}
 use borrow.Author.Tests.{ltb-true}
 use Rattle.laws.specs.Loop.{turns}
-use Rattle.laws.proofs.Loops.{turns-last}
+use Rattle.laws.proofs.Loops.{turns-last, below-next}
 use Rattle.laws.proofs.Choices.{cond-ind, cond-test, both, false-true}
 use Rattle.search.specs.declared.PassBest.{PassBest}
 use Rattle.search.specs.declared.Counts.{Counts}
@@ -20,7 +20,7 @@ use Rattle.search.specs.declared.Plan.{Plan}
 use Rattle.search.specs.declared.Search.{Search}
 use Rattle.search.specs.Search.{CellFn, passOf, placeOf, foundOf, improves, width, recentred, narrowed, shrunk, stopped, canRecentre, canShrink, movedOf, countedOf, refusedOf, stepOf, startOf, nextOf, afterPasses}
 use Rattle.search.proofs.Sums.{sum, sum-none, sum-next}
-use Rattle.search.proofs.Passes.{below-next, facesAt, rows-counts}
+use Rattle.search.proofs.Passes.{facesAt, rows-counts}
 
 -- ---- the cases of a move and of a pass
 

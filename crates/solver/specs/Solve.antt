@@ -5,7 +5,7 @@ use mathlib.Core.List.{List}
 use Prim.Native.Nat.{ℕ, _+_, _-_, _*_}
 use lib.Dec.{leb}
 use lib.ListN.{set, replicate}
-use lib.Ieee.{Float, lt, le, eq, isNan}
+use lib.Ieee.{Float, le, eq, isNan}
 use Rattle.laws.specs.Loop.{for}
 use Rattle.laws.specs.Choice.{unless}
 use Rattle.laws.specs.Floats.{_+f_, _-f_, _*f_, _/f_, +0, at, absOf, finite, positive, maxOf}

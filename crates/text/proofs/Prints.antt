@@ -13,10 +13,10 @@ pub nan-prints : hexOf (toBits binary64 nan) ≡ ascii "7ff8000000000000"
 unfolding toBits digitsOf
 nan-prints = refl
 
--- whatever the bits of the NaN in the file
-pub every-nan-prints : hexOf (toBits binary64 (f64 0xfff0_0000_0000_0001)) ≡ ascii "7ff8000000000000"
+-- so does a NaN with a sign and other bits
+pub negative-nan-prints : hexOf (toBits binary64 (f64 0xfff0_0000_0000_0001)) ≡ ascii "7ff8000000000000"
 unfolding toBits ofBits digitsOf
-every-nan-prints = refl
+negative-nan-prints = refl
 
 pub minus-zero-prints : hexOf (toBits binary64 (f64 0x8000_0000_0000_0000)) ≡ ascii "8000000000000000"
 unfolding toBits ofBits digitsOf

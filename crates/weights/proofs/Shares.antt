@@ -2,10 +2,9 @@
 use mathlib.Core.Path.{_≡_, refl, sym, ap, subst, _∙_}
 use mathlib.Core.Bool.{Bool, true, false, not, _&&_, _||_, cond}
 use mathlib.Core.List.{List, [], _∷_, map}
-use mathlib.Core.Logic.{_⊎_, ⊎-elim}
 use Prim.Native.Nat.{ℕ, zero, suc, _+_, _*_, _≤_, _<_}
 use native.Mathlib.Omega.{arith}
-use native.Mathlib.Nat.{mul-pos, eq-or-lt-of-le, le-of-suc-le-suc, not-suc-le-zero}
+use native.Mathlib.Nat.{mul-pos, le-of-suc-le-suc, not-suc-le-zero}
 use lib.Dec.{T, eqb, ltb}
 use lib.IntN.{ℤ, pos}
 use lib.ListN.{length, getD, length-map}
@@ -18,7 +17,7 @@ use borrow.Author.Tests.{ltb-true, eqb-true, eqb-false}
 use Rattle.laws.proofs.Signs.{Signed, round-signed}
 use Rattle.laws.proofs.Order.{lt-or, lt→le, le-self, le-trans, lt-le-trans}
 use Rattle.laws.specs.Floats.{+0, one, at, finite, positive, minOf, maxOf}
-use Rattle.laws.proofs.Loops.{for-ind}
+use Rattle.laws.proofs.Loops.{for-ind, below-next}
 use Rattle.weights.specs.Weights.{allGood, topOf, scaleOne, scaledOf, capOf}
 use Rattle.weights.proofs.Sorted.{Number}
 
@@ -140,9 +139,6 @@ max-is P t v n f g = go (lt t v) (ne t t) refl f g
     go false true e p q = absurd (same-is t n e)
     go false false e p q = q tt
 
-below : (j i : ℕ) → j < i + 1 → (j ≡ i) ⊎ (j < i)
-below j i l = eq-or-lt-of-le (omega arith)
-
 module _ (cap : Float) (ws : List Float) where
   abbrev v : ℕ → Float
   v j = minOf (at ws j) cap
@@ -175,11 +171,9 @@ module _ (cap : Float) (ws : List Float) where
       record {
         top = max-is (Top (i + 1)) t (v i) n (λ l. some i (omega arith) refl (above-zero i t (v i) (h .top) l)) (λ l. longer i t (h .top));
         most =
-            λ j l m.
-            ⊎-elim
-            (λ e. subst (λ (k : ℕ). T (le (v k) (maxOf t (v i)))) (sym e) (max-is (λ (x : Float). T (le (v i) x)) t (v i) n (λ g. le-self (v i) (subst (λ (k : ℕ). Number (v k)) e m)) (λ g. not-not (v i) t (subst (λ (k : ℕ). Number (v k)) e m) n g)))
-            (λ k. max-is (λ (x : Float). T (le (v j) x)) t (v i) n (λ g. le-trans (v j) t (v i) m (above-number t (v i) g) (h .most j k m) (lt→le t (v i) g)) (λ g. h .most j k m))
-            (below j i l);
+            below-next (λ (j : ℕ). Number (v j) → T (le (v j) (maxOf t (v i)))) i
+            (λ j k m. max-is (λ (x : Float). T (le (v j) x)) t (v i) n (λ g. le-trans (v j) t (v i) m (above-number t (v i) g) (h .most j k m) (lt→le t (v i) g)) (λ g. h .most j k m))
+            (λ m. max-is (λ (x : Float). T (le (v i) x)) t (v i) n (λ g. le-self (v i) m) (λ g. not-not (v i) t m n g));
       }
     where
       not-not : (x y : Float) → Number x → Number y → T (not (lt y x)) → T (le x y)
@@ -205,7 +199,7 @@ unfolding allGood
 good-at l = for-ind (λ i b. b && positive (at l i)) (λ (i : ℕ) (b : Bool). T b → (j : ℕ) → j < i → T (positive (at l j))) (length l) one-more true (λ t j h. absurd (not-suc-le-zero h))
   where
     one-more : (i : ℕ) (b : Bool) → i < length l → (T b → (j : ℕ) → j < i → T (positive (at l j))) → T (b && positive (at l i)) → (j : ℕ) → j < i + 1 → T (positive (at l j))
-    one-more i b k h t j m = ⊎-elim (λ e. subst (λ (k : ℕ). T (positive (at l k))) (sym e) (and-r b _ t)) (λ n. h (and-l b _ t) j n) (below j i m)
+    one-more i b k h t = below-next (λ (j : ℕ). T (positive (at l j))) i (h (and-l b _ t)) (and-r b _ t)
 
 map-at : (f : Float → Float) (l : List Float) (n : ℕ) → n < length l → getD (map f l) n nan ≡ f (getD l n nan)
 map-at f [] n h = absurd (not-suc-le-zero h)

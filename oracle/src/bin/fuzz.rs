@@ -55,10 +55,11 @@ impl Lent {
     }
 }
 
-/// What one file showed: the Rust's number, how many port calls, and what was wrong.
+/// What one file showed: the Rust's number, the faces that its search tried, the rooms that the port was given, and what was wrong.
 struct Shown {
     number: u32,
-    calls: usize,
+    faces: u64,
+    rooms: Vec<usize>,
     wrong: Option<String>,
 }
 
@@ -86,25 +87,34 @@ fn call(r: &mut Random, file: &[u8], room: usize, want: &[u8]) -> Option<String>
     }
 }
 
+/// The faces of an answer's search, 0 where there was none.
+fn faces(text: &str) -> u64 {
+    let search = text.lines().find_map(|l| l.strip_prefix("search "));
+    search.and_then(|l| l.split(' ').nth(4)).and_then(|v| v.parse().ok()).unwrap_or(0)
+}
+
+/// Every room from nothing to two bytes more than enough where the port answers at once, and for one search in 64 that is not long;
+/// else, since each call searches again, one that is enough and now and then a shorter one, of any size.
+fn rooms(r: &mut Random, size: usize, faces: u64) -> Vec<usize> {
+    let seldom = r.once_in(64);
+    if faces * size as u64 <= 20_000 || (seldom && faces <= 3_200) {
+        return (0..size + 3).collect();
+    }
+    let mut rooms = vec![size + r.one_of(&[0, 0, 1, 7, 100])];
+    rooms.extend(r.once_in(8).then(|| r.below(size)));
+    rooms
+}
+
 fn one(seed: u64, i: u64) -> (Vec<u8>, Shown) {
     let r = &mut Random::new(seed, i);
     let (base, other) = (house::write(&made::base(r)), house::write(&made::base(r)));
     let file = damage::damaged(r, &base, &other);
     let answer = house::answer(&file);
     let want = answer.text.as_bytes();
-    let enough = want.len() + r.one_of(&[0, 0, 1, 7, 100]);
-    // Room from nothing to one byte too little: nothing may be written. After a search only now and then: it is made again.
-    let searched = answer.number == 0 || (6..=9).contains(&answer.number);
-    let short = match r.below(if searched { 24 } else { 4 }) {
-        0 => Some(0),
-        1 => Some(want.len() - 1),
-        2 => Some(r.below(want.len())),
-        _ => None,
-    };
-    let rooms = [Some(enough), short];
-    let calls = rooms.iter().flatten().count();
-    let wrong = rooms.into_iter().flatten().find_map(|room| call(r, &file, room, want));
-    (file, Shown { number: answer.number, calls, wrong })
+    let faces = faces(&answer.text);
+    let rooms = rooms(r, want.len(), faces);
+    let wrong = rooms.iter().find_map(|&room| call(r, &file, room, want));
+    (file, Shown { number: answer.number, faces, rooms, wrong })
 }
 
 fn main() {
@@ -120,11 +130,20 @@ fn main() {
         std::fs::create_dir_all(folder).unwrap_or_else(|e| stop(format!("{folder}: {e}")));
     }
     let mut by_number = BTreeMap::<u32, usize>::new();
-    let (mut calls, mut wrong) = (0, 0);
+    let (mut calls, mut wrong, mut every, mut searched) = (0, 0, 0, 0);
+    let mut tried = Vec::<usize>::new();
     let progress = work::Progress::new("files", count);
     work::each(count, jobs, |i| one(seed, i as u64), |i, (file, shown)| {
         *by_number.entry(shown.number).or_default() += 1;
-        calls += shown.calls;
+        calls += shown.rooms.len();
+        if shown.rooms[0] == 0 {
+            every += 1;
+            searched += usize::from(shown.faces > 0);
+        }
+        for room in shown.rooms {
+            tried.resize(tried.len().max(room + 1), 0);
+            tried[room] += 1;
+        }
         if let Some(what) = shown.wrong {
             wrong += 1;
             progress.end();
@@ -140,6 +159,7 @@ fn main() {
     let accepted = by_number.remove(&0).unwrap_or(0);
     let refused: Vec<String> = by_number.iter().map(|(n, c)| format!("{n}: {c}")).collect();
     println!("seed {seed}: {count} damaged files, {calls} calls of the port in {:.0} s", progress.seconds());
+    println!("every room from 0 to two more than enough: {every} files, {searched} of them after a search; each of the sizes 0 to {} at least once", tried.iter().take_while(|&&n| n > 0).count() - 1);
     println!("accepted {accepted}, refused {} ({})", count - accepted, refused.join(", "));
     println!("wrong {wrong}");
     std::process::exit(i32::from(wrong > 0));
