@@ -120,6 +120,10 @@ module _ {f : PointFn} {tol : DiagnosticsConfig} {ks axis : List Float} {room₀
   pub rows-few : {n : ℕ} → n ≤ s .failed + length axis → n ≤ (j + 1) * length axis
   rows-few {n} h = omega (arith, h, i .few)
 
+  -- one row
+  pub row-on : (w : Walk) (l : List Float) → j < end′ → standing w l ≡ rowOf f tol axis (at ks j) (standing s room) → for (j + 1) end′ (walkTurn f tol ks axis) (standing w l) ≡ for 0 end′ (walkTurn f tol ks axis) (standing s₀ room₀)
+  row-on w l h e = again (walkTurn f tol ks axis) j end′ h e (i .left)
+
   pub walk-is : end′ ≤ j → s₀ ≡ startOf → standing s room ≡ walkOf f tol ks axis room₀
   unfolding walkOf
   walk-is l e = ended (walkTurn f tol ks axis) j end′ l (i .left) ∙ ap₂ (λ (n : ℕ) (w : Walk). for 0 n (walkTurn f tol ks axis) (standing w room₀)) (i .end) e

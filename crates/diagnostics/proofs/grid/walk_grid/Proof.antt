@@ -1,9 +1,8 @@
 -- `diagnostics::grid::walk_grid` meets its contract. Assumes nothing.
 use Rattle.diagnostics.specs.Walk.{seenOn}
-use Rattle.laws.proofs.Loops.{again}
 use mathlib.Core.Path.{refl, _∙_}
 use Prim.Native.Nat.{_-_}
-use Rattle.diagnostics.proofs.Standing.{WalkInv, walk-starts, row-room, row-fits, rows-few, walk-is}
+use Rattle.diagnostics.proofs.Standing.{WalkInv, walk-starts, row-room, row-fits, rows-few, row-on, walk-is}
 use native.Mathlib.Numerals.{add-one-dec}
 use borrow.Author.Needs.{needs}
 use Rattle.diagnostics.proofs.grid.walk_grid.Statement.{statement}
@@ -37,7 +36,7 @@ loop-again c =
       room-for = v .room-for;
       same = c .before .before .row .kept .1 .1 .1 .1 .1 .1 .1 .1 .1 .0 ∙ v .same;
       few = rows-few v (c .before .before .row .ensures .1);
-      left = again _ _ _ (c .before .before .before .before .before .loop-test .taken) (c .before .before .row .ensures .0) (v .left);
+      left = row-on v _ _ (c .before .before .before .before .before .loop-test .taken) (c .before .before .row .ensures .0);
     }
 
 same-length : tie.Need-same-length Inv-loop μ-loop
