@@ -8,7 +8,7 @@ use lib.ListN.{length}
 use lib.Ieee.{Float, nan}
 use borrow.Author.Tests.{le-leb, leb-true, eqb-true}
 use Rattle.laws.specs.Floats.{_+f_, _*f_, at, finite}
-use Rattle.laws.proofs.Choices.{cond-ind, both}
+use Rattle.laws.proofs.Choices.{if-true, cond-ind, both}
 use Rattle.laws.proofs.Loops.{for-keeps, for-same}
 use Rattle.solver.specs.declared.Solved.{Solved}
 use Rattle.cell.specs.declared.Face.{Face}
@@ -16,6 +16,7 @@ use Rattle.cell.specs.declared.Model.{Model}
 use Rattle.cell.specs.declared.Limits.{Limits}
 use Rattle.cell.specs.declared.Normal.{Normal}
 use Rattle.cell.specs.declared.Tried.{Tried}
+use Rattle.cell.specs.declared.Cell.{Cell}
 use Rattle.cell.specs.Faces.{faceAt}
 use Rattle.cell.specs.Next.{Good, Ordered, nextOf}
 use Rattle.cell.specs.Polytope.{rowsOf, boundsOf, spreadOf, feasibleOf}
@@ -146,3 +147,16 @@ best-good o p count t O e =
 pub passed-over : (t b : Tried) → t .some ≡ false → b ≡ pickOf t b
 unfolding pickOf
 passed-over t b e = rw e
+
+-- the answer for lists in range is that of the problem posed
+pub posed-on : (ks ws ts : List Float) (l : Limits) (m sigma : Float) (ys hs : List Float) {r : Cell} → inRange ks ws ts ≡ true
+    → r ≡ posedOf fitModel (at (ysOn ks m sigma ys)) (at (hsOn ks m sigma ys hs)) ws ts l sigma → r ≡ innerOn ks ws ts l m sigma ys hs
+unfolding innerOn
+posed-on ks ws ts l m sigma ys hs t e = if-true _ t e
+
+-- turns of a loop from 1
+pub one-more : (t : ℕ) → 1 ≤ t + 1
+one-more t = omega arith
+
+pub one-back : (t : ℕ) → t ≡ t + 1 - 1
+one-back t = omega arith

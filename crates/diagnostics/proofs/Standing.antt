@@ -1,5 +1,5 @@
 -- The test of the lent room, by division; the states of the two loops, and their invariants. Assumes nothing.
-use mathlib.Core.Path.{_≡_, refl, sym, _∙_, ap}
+use mathlib.Core.Path.{_≡_, refl, sym, _∙_, ap, ap₂}
 use mathlib.Core.Bool.{Bool, true, false, cond}
 use mathlib.Core.List.{List}
 use Prim.Native.Nat.{ℕ, _+_, _*_, _/_, _^_, _≤_, _<_}
@@ -13,9 +13,11 @@ use Rattle.diagnostics.specs.declared.grid.Previous.{Previous}
 use Rattle.diagnostics.specs.declared.grid.Walk.{Walk}
 use Rattle.diagnostics.specs.declared.points.Seen.{Seen}
 use lib.ListN.{length}
+use Rattle.laws.specs.Floats.{at}
 use Rattle.laws.specs.Loop.{for}
+use Rattle.laws.proofs.Loops.{again, ended}
 use Rattle.diagnostics.specs.declared.report.DiagnosticsConfig.{DiagnosticsConfig}
-use Rattle.diagnostics.specs.Walk.{State, standing, visitOf, PointFn, rowTurn, walkTurn}
+use Rattle.diagnostics.specs.Walk.{State, standing, visitOf, PointFn, rowTurn, walkTurn, freshOf, rowOf, startOf, walkOf}
 use Rattle.diagnostics.specs.Diagnostics.{Outcome, diagnoseNumber, reportOf, reported, outcome}
 use Rattle.diagnostics.specs.declared.report.SurfaceDiagnostics.{SurfaceDiagnostics}
 use Rattle.diagnostics.specs.declared.report.Diagnosed.{Diagnosed}
@@ -72,16 +74,64 @@ pub record WalkInv (f : PointFn) (tol : DiagnosticsConfig) (ks axis : List Float
   pub few : s .failed ≤ i * length axis
   pub left : for i end′ (walkTurn f tol ks axis) (standing s room) ≡ for 0 end′ (walkTurn f tol ks axis) (standing s₀ room₀)
 
--- room for one more row
-pub row-room : (i nk nt f l : ℕ) → i < nk → f ≤ i * nt → 3 * (nk * nt) ≤ l → 3 * (f + nt) ≤ l
-row-room i nk nt f l h few room = let a : (i + 1) * nt ≤ nk * nt = mul-le-mul-right nt (omega arith) in omega arith
+-- a row begins with as many failures as were counted before it, so there is room for it
+pub row-starts : (from : Walk) {s : Walk} (n l : ℕ) → s ≡ freshOf from → 3 * (from .failed + n) ≤ l → 3 * (s .failed + n) ≤ l
+unfolding freshOf
+row-starts from n l e h = let z = ap (λ (w : Walk). w .failed) e in omega (arith, z, h)
 
--- a visit of what is seen, and a loop from a walk, by another name of it
-pub visit-of : (st : State) {a b : Seen} (k tau : Float) (tol : DiagnosticsConfig) {z : State} → z ≡ visitOf st a k tau tol → a ≡ b → z ≡ visitOf st b k tau tol
-visit-of st k tau tol e h = e ∙ ap (λ (s : Seen). visitOf st s k tau tol) h
+pub none-more : (n : ℕ) → n ≤ n + 0
+none-more n = omega arith
 
-pub loop-from : (g : ℕ → State → State) (b : ℕ) (room : List Float) {x y : Walk} {z : State} → z ≡ for 0 b g (standing x room) → x ≡ y → z ≡ for 0 b g (standing y room)
-loop-from g b room e h = e ∙ ap (λ (w : Walk). for 0 b g (standing w room)) h
+module _ {f : PointFn} {tol : DiagnosticsConfig} {axis : List Float} {k : Float} {room₀ : List Float} {s₀ : Walk} {end′ : ℕ} {room : List Float} {s : Walk} {j : ℕ} (i : RowInv f tol axis k room₀ s₀ end′ room s j) where
+  -- room for one more failure
+  pub point-room : j < end′ → 3 * s .failed + 3 ≤ length room
+  point-room l = omega (arith, i .end, i .room-for, i .same, i .few)
+
+  pub point-fits : j < end′ → j + 1 < 2 ^ 64
+  point-fits l = omega (arith, i .end, i .fits)
+
+  pub point-few : {n : ℕ} → n ≤ s .failed + 1 → n ≤ s₀ .failed + (j + 1)
+  point-few {n} h = omega (arith, i .few)
+
+  -- one visit of what is seen at the point
+  pub point-on : {a : Seen} (w : Walk) (l : List Float) → j < end′ → standing w l ≡ visitOf (standing s room) a k (at axis j) tol → a ≡ f k (at axis j)
+      → for (j + 1) end′ (rowTurn f tol axis k) (standing w l) ≡ for 0 end′ (rowTurn f tol axis k) (standing s₀ room₀)
+  point-on w l h e same = again (rowTurn f tol axis k) j end′ h (e ∙ ap (λ (x : Seen). visitOf (standing s room) x k (at axis j) tol) same) (i .left)
+
+  -- at the end of the row
+  pub row-few : (from : Walk) → s₀ ≡ freshOf from → s .failed ≤ from .failed + length axis
+  unfolding freshOf
+  row-few from e = let z = ap (λ (w : Walk). w .failed) e in omega (arith, z, i .few, i .within, i .end)
+
+  pub row-is : (from : Walk) → end′ ≤ j → s₀ ≡ freshOf from → standing s room ≡ rowOf f tol axis k (standing from room₀)
+  unfolding rowOf
+  row-is from l e = ended (rowTurn f tol axis k) j end′ l (i .left) ∙ ap₂ (λ (n : ℕ) (w : Walk). for 0 n (rowTurn f tol axis k) (standing w room₀)) (i .end) e
+
+module _ {f : PointFn} {tol : DiagnosticsConfig} {ks axis : List Float} {room₀ : List Float} {s₀ : Walk} {end′ : ℕ} {room : List Float} {s : Walk} {j : ℕ} (i : WalkInv f tol ks axis room₀ s₀ end′ room s j) where
+  pub row-fits : j < end′ → j + 1 < 2 ^ 64
+  row-fits l = omega (arith, i .end, i .fits)
+
+  -- room for one more row
+  pub row-room : j < end′ → 3 * (s .failed + length axis) ≤ length room
+  row-room l =
+      let a : (j + 1) * length axis ≤ length ks * length axis = mul-le-mul-right (length axis) (omega (arith, i .end)) in
+      omega (arith, a, i .few, i .room-for, i .same)
+
+  pub rows-few : {n : ℕ} → n ≤ s .failed + length axis → n ≤ (j + 1) * length axis
+  rows-few {n} h = omega (arith, h, i .few)
+
+  -- one row
+  pub row-on : (w : Walk) (l : List Float) → j < end′ → standing w l ≡ rowOf f tol axis (at ks j) (standing s room) → for (j + 1) end′ (walkTurn f tol ks axis) (standing w l) ≡ for 0 end′ (walkTurn f tol ks axis) (standing s₀ room₀)
+  row-on w l h e = again (walkTurn f tol ks axis) j end′ h e (i .left)
+
+  pub walk-is : end′ ≤ j → s₀ ≡ startOf → standing s room ≡ walkOf f tol ks axis room₀
+  unfolding walkOf
+  walk-is l e = ended (walkTurn f tol ks axis) j end′ l (i .left) ∙ ap₂ (λ (n : ℕ) (w : Walk). for 0 n (walkTurn f tol ks axis) (standing w room₀)) (i .end) e
+
+-- a walk begins with no failure
+pub walk-starts : {s : Walk} (n : ℕ) → s ≡ startOf → s .failed ≤ 0 * n
+unfolding startOf
+walk-starts n e = let z = ap (λ (w : Walk). w .failed) e in omega (arith, z)
 
 no-refusal : (b : Bool) (m : ℕ) → cond b 12 m ≡ 0 → b ≡ false
 no-refusal true m h = absurd (omega (arith, h))

@@ -136,3 +136,13 @@ module _ (g r : ℕ) (few : step g r ≤ 64) where
     where
       go : (c : ℕ) → c * (2 * g + c) ≤ r → sq (g + c) + (r - c * (2 * g + c)) ≡ sq g + r
       go c h = omega arith
+
+-- the sums of the division fit 64 binary digits
+pub limb-fits : (d : ℕ) → d ≤ 255 → d * 18014398509481984 < 2 ^ 64
+limb-fits d h = omega arith
+
+pub limbs-fit : (d l : ℕ) → d ≤ 255 → l < 2 ^ 54 → d * 18014398509481984 + l < 2 ^ 64
+limbs-fit d l h k = omega arith
+
+pub divisor-fits : (g : ℕ) → g < 2 ^ 55 → g / 2 ^ 39 + 2 < 2 ^ 64
+divisor-fits g h = omega arith

@@ -1,5 +1,5 @@
 -- What a passed test says of a run, and what a bracket says of its positions. Assumes nothing.
-use mathlib.Core.Path.{_≡_, refl, sym, _∙_, subst}
+use mathlib.Core.Path.{_≡_, refl, sym, ap, ap₂, _∙_, subst}
 use mathlib.Core.Bool.{Bool, true, false, _||_, cond}
 use mathlib.Core.List.{List}
 use Prim.Native.Nat.{ℕ, _≤_, _<_}
@@ -10,11 +10,13 @@ use lib.ListN.{length}
 use borrow.Author.Tests.{ltb-false}
 use Rattle.laws.proofs.Choices.{passed-number}
 use Rattle.surface.specs.declared.types.Run.{Run}
+use Rattle.surface.specs.declared.types.ShortExpiryPolicy.{ShortExpiryPolicy}
 use Rattle.surface.specs.declared.types.Bracket.{Bracket}
 use Rattle.surface.specs.declared.types.Bracket.the-variants.{Segment}
-use Rattle.surface.specs.Runs.{checkRun}
+use Rattle.surface.specs.Runs.{tausOf, checkRun}
 use Rattle.surface.specs.Axis.{gridNumber}
-use Rattle.surface.specs.Surface.{entryNumber}
+use Rattle.surface.specs.Lookup.{tolerancesOf, bracketOf}
+use Rattle.surface.specs.Surface.{tolsOf, bracketIn, entryNumber}
 use Rattle.surface.specs.Inner.{Inside}
 
 -- the positions of a segment
@@ -38,3 +40,12 @@ no-refusal false m h = h
 pub entry-few : (run : Run) (k tau : List Float) {r : ℕ} → r ≡ entryNumber run k tau → r ≡ 0 → run .count ≤ 32
 unfolding entryNumber
 entry-few run k tau {r} e z = few run (passed-number (checkRun run) (gridNumber k tau) (no-refusal (ltb 64 (length k) || ltb 64 (length tau)) _ (sym e ∙ z)) .0)
+
+-- what the code reckons of a run, its taus and then its tolerances, is what the definitions say
+module _ (run : Run) {taus tols : List Float} (e : taus ≡ tausOf (run .recs)) (h : tols ≡ tolerancesOf taus (run .count)) where
+  pub tols-of : tols ≡ tolsOf run
+  tols-of = h ∙ ap (λ (l : List Float). tolerancesOf l (run .count)) e
+
+  pub bracket-of : (policy : ShortExpiryPolicy) (k tau : Float) → bracketOf taus tols (run .count) policy k tau ≡ bracketIn run policy k tau
+  unfolding bracketIn
+  bracket-of policy k tau = ap₂ (λ (a b : List Float). bracketOf a b (run .count) policy k tau) e tols-of

@@ -2,6 +2,7 @@
 use mathlib.Core.Path.{_≡_, refl, sym, ap, _∙_}
 use mathlib.Core.Logic.{⊎-elim}
 use Prim.Native.Nat.{_+_, _-_, _≤_}
+use native.Mathlib.Numerals.{add-one-le}
 use native.Mathlib.Omega.{arith}
 use borrow.Author.Needs.{needs}
 use Rattle.laws.specs.Loop.{for}
@@ -10,7 +11,7 @@ use Rattle.cell.specs.Faces.{faceAt}
 use Rattle.cell.specs.Least.{objectiveAt}
 use Rattle.cell.specs.Cell.{problem, tryOf, pickOf, bestOf}
 use Rattle.cell.specs.declared.Tried.{Tried}
-use Rattle.cell.proofs.Laws.{stepped, good-at, good-seven, passed-over}
+use Rattle.cell.proofs.Laws.{stepped, good-at, good-seven, passed-over, one-more, one-back}
 use Rattle.cell.proofs.best.Statement.{statement}
 use Rattle.cell.proofs.best.Tie as tie
 
@@ -25,7 +26,7 @@ abbrev μ-loop : tie.MeasureT-loop
 
 loop-holds : tie.Need-loop-holds Inv-loop μ-loop
 unfolding bestOf
-loop-holds c = (omega arith, c .before .before .pre .0 .0 .many, sym (c .before .before .pre .0 .0 .first), again _ 0 _ (c .before .before .pre .0 .0 .many) (passed-over _ _ (c .before .before .pre .1)) refl)
+loop-holds c = (one-more 0, c .before .before .pre .0 .0 .many, sym (c .before .before .pre .0 .0 .first), again _ 0 _ (c .before .before .pre .0 .0 .many) (passed-over _ _ (c .before .before .pre .1)) refl)
 
 next-requires : tie.Need-next-requires Inv-loop μ-loop
 next-requires c κs =
@@ -52,12 +53,14 @@ loop-again c =
     let o = objectiveAt (a .ys .now) (a .hs .now) (a .ws .now) (a .ts .now) in
     let p = problem (a .k .u) (a .k .n) (a .base .now) (a .right .now) (a .g .now) (a .h .now) (a .pivot) (a .slack) in
     let e = stepped P (l .t) (l .f) (n .next .result) (l .inv .0) (n .before .loop-test .taken) (l .inv .2) (n .next .ensures) in
-    let k : l .t ≡ l .t + 1 - 1 = omega arith in
+    let f = e ∙ ap (faceAt (a .k .u) (a .k .n)) (one-back (l .t)) in
+    let on = one-more (l .t) in
+    let under = add-one-le (n .before .loop-test .taken) in
     let tried = ap (λ (t : Tried). pickOf t (l .b)) (d .try-face .ensures ∙ ap (tryOf o p) e) in
     let next = again _ _ _ (n .before .loop-test .taken) in
     ⊎-elim
-    (λ w. (omega arith, omega arith, e ∙ ap (faceAt (a .k .u) (a .k .n)) k, next (w .2 ∙ w .1 .ensures ∙ tried) (l .inv .3)))
-    (λ w. (omega arith, omega arith, e ∙ ap (faceAt (a .k .u) (a .k .n)) k, next (w .1 ∙ passed-over (d .try-face .result) (l .b) (w .0 .left) ∙ tried) (l .inv .3)))
+    (λ w. (on, under, f, next (w .2 ∙ w .1 .ensures ∙ tried) (l .inv .3)))
+    (λ w. (on, under, f, next (w .1 ∙ passed-over (d .try-face .result) (l .b) (w .0 .left) ∙ tried) (l .inv .3)))
     (c .if1 .came)
 
 returns : tie.Need-returns Inv-loop μ-loop

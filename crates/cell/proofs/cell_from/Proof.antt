@@ -6,7 +6,9 @@ use Rattle.cell.proofs.cell_from.Tie as tie
 
 returns : tie.Need-returns
 unfolding cellFrom
-returns c = cc
+returns c =
+    let a = c .before .before .args in
+    λ i. record { some = a .t .some; objective = a .t .objective; x = a .t .x; active = c .before .marks .ensures i; faces = a .faces }
 
 pub cell-from-spec : {M : Type 1} → statement M
 cell-from-spec =

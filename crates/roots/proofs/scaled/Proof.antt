@@ -14,10 +14,10 @@ near-digits-requires : tie.Need-near-digits-requires
 near-digits-requires c κs = search needs
 
 from-whole-requires : tie.Need-from-whole-requires
-from-whole-requires c κs = search needs
+from-whole-requires c κs = c .before .before .pre
 
 returns : tie.Need-returns
-returns c = search needs
+returns c = c .from-whole .ensures
 
 mul-q : tie.Need-mul-q
 mul-q c = search needs
@@ -53,10 +53,10 @@ returns-2 : tie.Need-returns-2
 returns-2 c = let g = c .before .within .ensures (c .if2 .taken) in (half-around (c .before .before .before .before .args .m) (c .before .before .before .before .args .s) (c .before .before .before .near-digits .result) (omega arith) (omega arith) (omega arith) (g .0) (g .1), omega arith)
 
 from-whole-requires-2 : tie.Need-from-whole-requires-2
-from-whole-requires-2 c κs = search needs
+from-whole-requires-2 c κs = c .before .before .before .before .pre
 
 returns-3 : tie.Need-returns-3
-returns-3 c = search needs
+returns-3 c = c .from-whole2 .ensures
 
 pub scaled-spec : {M : Type 1} → statement M
 scaled-spec =

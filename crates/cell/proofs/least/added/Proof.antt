@@ -6,7 +6,7 @@ use Rattle.cell.proofs.least.added.Tie as tie
 
 returns : tie.Need-returns
 unfolding addedTo
-returns c = cc
+returns c = λ i. record { a = c .before .before .line-plus .ensures i; d = c .before .line-plus2 .ensures i; c = c .line-plus3 .ensures i }
 
 pub added-spec : {M : Type 1} → statement M
 added-spec =

@@ -1,13 +1,9 @@
 -- `diagnostics::grid::row` meets its contract. Assumes nothing.
-use Rattle.diagnostics.specs.Walk.{rowOf, seenOn, freshOf, standing}
-use Rattle.laws.proofs.Loops.{again, ended}
-use mathlib.Core.Path.{refl, ap}
-use Prim.Native.Nat.{_-_}
-use Rattle.diagnostics.specs.declared.grid.Walk.{Walk}
-use Rattle.diagnostics.proofs.Standing.{RowInv, visit-of, loop-from}
-use lib.ListN.{getD}
-use lib.Ieee.{nan}
-use native.Mathlib.Omega.{arith}
+use Rattle.diagnostics.specs.Walk.{seenOn}
+use mathlib.Core.Path.{refl, _∙_}
+use Prim.Native.Nat.{_-_, zero-le}
+use Rattle.diagnostics.proofs.Standing.{RowInv, row-starts, none-more, point-room, point-fits, point-few, point-on, row-few, row-is}
+use native.Mathlib.Numerals.{add-one-le, add-one-dec}
 use borrow.Author.Needs.{needs}
 use Rattle.diagnostics.proofs.grid.row.Statement.{statement}
 use Rattle.diagnostics.proofs.grid.row.Tie as tie
@@ -20,19 +16,16 @@ abbrev μ-loop : tie.MeasureT-loop
 μ-loop recs taus tols n policy axis tol k room₀ s₀ j₀ j-end room s j = j-end - j
 
 loop-holds : tie.Need-loop-holds Inv-loop μ-loop
-unfolding freshOf
-loop-holds c =
-    let e = ap (λ (w : Walk). w .failed) (c .fresh .ensures) in
-    record { end = refl; fits = search needs; room-for = omega (arith, e, c .before .before .before .pre); same = refl; few = omega arith; within = omega arith; left = refl }
+loop-holds c = record { end = refl; fits = search needs; room-for = row-starts _ _ _ (c .fresh .ensures) (c .before .before .before .pre); same = refl; few = none-more _; within = zero-le; left = refl }
 
 visit-requires : tie.Need-visit-requires Inv-loop μ-loop
-visit-requires c κs = let i = c .before .before .before .before .loop .inv in omega (arith, c .before .before .before .loop-test .taken)
+visit-requires c κs = point-room (c .before .before .before .before .loop .inv) (c .before .before .before .loop-test .taken)
 
 add-j : tie.Need-add-j Inv-loop μ-loop
-add-j c = let i = c .before .before .before .before .before .before .before .loop .inv in record { fits = omega (arith, c .before .before .before .before .before .before .loop-test .taken, i .fits, i .end) }
+add-j c = record { fits = point-fits (c .before .before .before .before .before .before .before .loop .inv) (c .before .before .before .before .before .before .loop-test .taken) }
 
 loop-less : tie.Need-loop-less Inv-loop μ-loop
-loop-less c = omega (arith, c .before .before .before .before .before .before .loop-test .taken)
+loop-less c = add-one-dec _ _ (c .before .before .before .before .before .before .loop-test .taken)
 
 loop-again : tie.Need-loop-again Inv-loop μ-loop
 loop-again c =
@@ -41,21 +34,19 @@ loop-again c =
       end = i .end;
       fits = i .fits;
       room-for = i .room-for;
-      same = omega (arith, c .before .before .visit .kept .0, i .same);
-      few = omega (arith, i .few, c .before .before .visit .ensures .1);
-      within = omega (arith, c .before .before .before .before .before .before .loop-test .taken);
-      left = again _ _ _ (c .before .before .before .before .before .before .loop-test .taken) (visit-of (standing (c .before .before .before .before .before .before .before .loop .s) (c .before .before .before .before .before .before .before .loop .room)) (c .before .before .before .before .before .before .before .before .before .before .before .args .k) (getD (c .before .before .before .before .before .before .before .before .before .before .before .args .axis .now) (c .before .before .before .before .before .before .before .loop .j) nan) (c .before .before .before .before .before .before .before .before .before .before .before .args .tol) (c .before .before .visit .ensures .0) (c .before .before .before .before .seen-at .ensures)) (i .left);
+      same = c .before .before .visit .kept .0 ∙ i .same;
+      few = point-few i (c .before .before .visit .ensures .1);
+      within = add-one-le (c .before .before .before .before .before .before .loop-test .taken);
+      left = point-on i _ _ (c .before .before .before .before .before .before .loop-test .taken) (c .before .before .visit .ensures .0) (c .before .before .before .before .seen-at .ensures);
     }
 
 same-length : tie.Need-same-length Inv-loop μ-loop
 same-length c = c .before .loop .inv .same
 
 returns : tie.Need-returns Inv-loop μ-loop
-unfolding rowOf freshOf
 returns c =
     let i = c .before .loop .inv in
-    let e = ap (λ (w : Walk). w .failed) (c .before .before .fresh .ensures) in
-    (loop-from _ _ _ (ended _ _ _ (c .loop-test .left) (i .left)) (c .before .before .fresh .ensures), omega (arith, e, i .few, i .within, i .end))
+    (row-is i (c .before .before .before .before .before .args .from) (c .loop-test .left) (c .before .before .fresh .ensures), row-few i (c .before .before .before .before .before .args .from) (c .before .before .fresh .ensures))
 
 pub row-spec : {M : Type 1} → statement M
 row-spec =

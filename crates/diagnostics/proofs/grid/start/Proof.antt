@@ -6,7 +6,7 @@ use Rattle.diagnostics.proofs.grid.start.Tie as tie
 
 returns : tie.Need-returns
 unfolding startOf
-returns c = cc
+returns c = λ i. record { butterfly = c .before .default .ensures i; slope = c .before .default .ensures i; gap = c .before .default .ensures i; failed = 0; previous = c .nothing-before .ensures i }
 
 pub start-spec : {M : Type 1} → statement M
 start-spec =

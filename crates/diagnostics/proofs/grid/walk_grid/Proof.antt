@@ -1,12 +1,9 @@
 -- `diagnostics::grid::walk_grid` meets its contract. Assumes nothing.
-use Rattle.diagnostics.specs.Walk.{walkOf, seenOn, startOf}
-use Rattle.laws.proofs.Loops.{again, ended}
-use mathlib.Core.Path.{refl, ap}
+use Rattle.diagnostics.specs.Walk.{seenOn}
+use mathlib.Core.Path.{refl, _∙_}
 use Prim.Native.Nat.{_-_}
-use lib.ListN.{length}
-use Rattle.diagnostics.specs.declared.grid.Walk.{Walk}
-use Rattle.diagnostics.proofs.Standing.{WalkInv, row-room, loop-from}
-use native.Mathlib.Omega.{arith}
+use Rattle.diagnostics.proofs.Standing.{WalkInv, walk-starts, row-room, row-fits, rows-few, row-on, walk-is}
+use native.Mathlib.Numerals.{add-one-dec}
 use borrow.Author.Needs.{needs}
 use Rattle.diagnostics.proofs.grid.walk_grid.Statement.{statement}
 use Rattle.diagnostics.proofs.grid.walk_grid.Tie as tie
@@ -19,21 +16,16 @@ abbrev μ-loop : tie.MeasureT-loop
 μ-loop recs taus tols n policy ks axis tol room₀ s₀ i₀ i-end room s i = i-end - i
 
 loop-holds : tie.Need-loop-holds Inv-loop μ-loop
-unfolding startOf
-loop-holds c =
-    let e = ap (λ (w : Walk). w .failed) (c .start .ensures) in
-    record { end = refl; fits = search needs; room-for = c .before .before .before .before .pre; same = refl; few = omega (arith, e); left = refl }
+loop-holds c = record { end = refl; fits = search needs; room-for = c .before .before .before .before .pre; same = refl; few = walk-starts _ (c .start .ensures); left = refl }
 
 row-requires : tie.Need-row-requires Inv-loop μ-loop
-row-requires c κs =
-    let v = c .before .before .before .loop .inv in
-    row-room (c .before .before .before .loop .i) (length (c .before .before .before .before .before .before .before .before .args .ks .now)) (length (c .before .before .before .before .before .before .before .before .args .axis .now)) _ _ (c .before .before .loop-test .taken) (v .few) (omega (arith, v .room-for, v .same))
+row-requires c κs = row-room (c .before .before .before .loop .inv) (c .before .before .loop-test .taken)
 
 add-i : tie.Need-add-i Inv-loop μ-loop
-add-i c = let v = c .before .before .before .before .before .before .loop .inv in record { fits = omega (arith, c .before .before .before .before .before .loop-test .taken, v .fits, v .end) }
+add-i c = record { fits = row-fits (c .before .before .before .before .before .before .loop .inv) (c .before .before .before .before .before .loop-test .taken) }
 
 loop-less : tie.Need-loop-less Inv-loop μ-loop
-loop-less c = omega (arith, c .before .before .before .before .before .loop-test .taken)
+loop-less c = add-one-dec _ _ (c .before .before .before .before .before .loop-test .taken)
 
 loop-again : tie.Need-loop-again Inv-loop μ-loop
 loop-again c =
@@ -42,18 +34,16 @@ loop-again c =
       end = v .end;
       fits = v .fits;
       room-for = v .room-for;
-      same = omega (arith, c .before .before .row .kept .1 .1 .1 .1 .1 .1 .1 .1 .1 .0, v .same);
-      few = omega (arith, v .few, c .before .before .row .ensures .1);
-      left = again _ _ _ (c .before .before .before .before .before .loop-test .taken) (c .before .before .row .ensures .0) (v .left);
+      same = c .before .before .row .kept .1 .1 .1 .1 .1 .1 .1 .1 .1 .0 ∙ v .same;
+      few = rows-few v (c .before .before .row .ensures .1);
+      left = row-on v _ _ (c .before .before .before .before .before .loop-test .taken) (c .before .before .row .ensures .0);
     }
 
 same-length : tie.Need-same-length Inv-loop μ-loop
 same-length c = c .before .loop .inv .same
 
 returns : tie.Need-returns Inv-loop μ-loop
-unfolding walkOf
-returns c =
-    loop-from _ _ _ (ended _ _ _ (c .loop-test .left) (c .before .loop .inv .left)) (c .before .before .start .ensures)
+returns c = walk-is (c .before .loop .inv) (c .loop-test .left) (c .before .before .start .ensures)
 
 pub walk-grid-spec : {M : Type 1} → statement M
 walk-grid-spec =

@@ -4,7 +4,7 @@ use Prim.Native.Nat.{ℕ, _+_, _-_, _*_, _^_}
 use native.Mathlib.Omega.{arith}
 use Rattle.roots.specs.Root.{sq}
 use Rattle.roots.specs.Inner.{RootPair}
-use Rattle.roots.proofs.Limbs.{step-le, step-sum}
+use Rattle.roots.proofs.Limbs.{limb-fits, limbs-fit, divisor-fits, step-le, step-sum}
 use borrow.Author.Needs.{needs}
 use Rattle.roots.proofs.whole.wide_root.Statement.{statement}
 use Rattle.roots.proofs.whole.wide_root.Tie as tie
@@ -16,46 +16,46 @@ use Rattle.roots.proofs.whole.slow_wide_root.Reads as slow-wide-root-re
 use Rattle.roots.proofs.wide.square.Reads as square-reads
 
 guess-requires : tie.Need-guess-requires
-guess-requires c κs = search needs
+guess-requires c κs = c .pre .0
 
 square-requires : tie.Need-square-requires
-square-requires c κs = search needs
+square-requires c κs = c .guess .ensures
 
 slow-wide-root-requires : tie.Need-slow-wide-root-requires
-slow-wide-root-requires c κs = search needs
+slow-wide-root-requires c κs = c .before .before .before .pre
 
 returns : tie.Need-returns
-returns c = search needs
+returns c = c .slow-wide-root .ensures
 
 slow-wide-root-requires-2 : tie.Need-slow-wide-root-requires-2
-slow-wide-root-requires-2 c κs = search needs
+slow-wide-root-requires-2 c κs = c .before .before .before .before .pre
 
 returns-2 : tie.Need-returns-2
-returns-2 c = search needs
+returns-2 c = c .slow-wide-root2 .ensures
 
 mul-over : tie.Need-mul-over
-mul-over c = search needs
+mul-over c = record { fits = limb-fits _ (c .if2 .left) }
 
 add-over : tie.Need-add-over
-add-over c = search needs
+add-over c = record { fits = limbs-fit _ _ (c .if2 .left) (c .before .before .before .before .pre .1) }
 
 slow-wide-root-requires-3 : tie.Need-slow-wide-root-requires-3
-slow-wide-root-requires-3 c κs = search needs
+slow-wide-root-requires-3 c κs = c .before .before .before .before .before .pre
 
 returns-3 : tie.Need-returns-3
-returns-3 c = search needs
+returns-3 c = c .slow-wide-root3 .ensures
 
 add-c : tie.Need-add-c
-add-c c = search needs
+add-c c = record { fits = divisor-fits _ (c .before .before .before .before .guess .ensures) }
 
 div-c : tie.Need-div-c
 div-c c = search needs
 
 slow-wide-root-requires-4 : tie.Need-slow-wide-root-requires-4
-slow-wide-root-requires-4 c κs = search needs
+slow-wide-root-requires-4 c κs = c .before .before .before .before .before .before .pre
 
 returns-4 : tie.Need-returns-4
-returns-4 c = search needs
+returns-4 c = c .slow-wide-root4 .ensures
 
 add-climb : tie.Need-add-climb
 add-climb c = search needs

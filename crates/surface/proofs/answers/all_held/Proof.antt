@@ -1,7 +1,8 @@
 -- `surface::answers::all_held` meets its contract. Assumes nothing.
 use Rattle.surface.specs.Surface.{allHeld, allHeldTurn}
 use Rattle.laws.proofs.Loops.{again, ended}
-use mathlib.Core.Path.{_≡_, refl}
+use mathlib.Core.Path.{_≡_, refl, ap}
+use mathlib.Core.Bool.{Bool, _&&_}
 use Rattle.laws.specs.Loop.{for}
 use Prim.Native.Nat.{_-_}
 use borrow.Author.Needs.{needs}
@@ -19,7 +20,7 @@ unfolding allHeld
 loop-holds c = refl
 
 loop-again : tie.Need-loop-again Inv-loop μ-loop
-loop-again c = again _ _ _ (c .before .before .loop-test .taken) (cc (c .holds .ensures)) (c .before .before .before .loop .inv)
+loop-again c = again _ _ _ (c .before .before .loop-test .taken) (ap (λ (b : Bool). c .before .before .before .loop .ok && b) (c .holds .ensures)) (c .before .before .before .loop .inv)
 
 returns : tie.Need-returns Inv-loop μ-loop
 returns c = ended _ _ _ (c .loop-test .left) (c .before .loop .inv)

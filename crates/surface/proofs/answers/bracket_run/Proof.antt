@@ -1,14 +1,18 @@
 -- `surface::answers::bracket_run` meets its contract. Assumes nothing.
-use Rattle.surface.specs.Surface.{bracketRun, bracketIn}
+use Rattle.surface.specs.Surface.{bracketRun}
 use Rattle.laws.proofs.Choices.{number-goes, number-no}
 use Rattle.surface.specs.declared.types.Bracket.the-variants.{Refused}
+use mathlib.Core.Path.{_∙_}
+use Rattle.surface.proofs.Passed.{bracket-of}
 use borrow.Author.Needs.{needs}
 use Rattle.surface.proofs.answers.bracket_run.Statement.{statement}
 use Rattle.surface.proofs.answers.bracket_run.Tie as tie
 
 returns : tie.Need-returns
-unfolding bracketRun bracketIn
-returns c = number-goes _ (c .before .before .before .before .before .before .before .before .check-run .ensures) (c .before .before .before .before .before .before .before .if1 .taken) (cc (c .bracket-at .ensures .0, c .before .before .before .tolerances .ensures, c .before .before .before .before .before .taus-of .ensures))
+unfolding bracketRun
+returns c =
+    let a = c .before .before .before .before .before .before .before .before .before .args in
+    number-goes _ (c .before .before .before .before .before .before .before .before .check-run .ensures) (c .before .before .before .before .before .before .before .if1 .taken) (c .bracket-at .ensures .0 ∙ bracket-of (a .run) (c .before .before .before .before .before .taus-of .ensures) (c .before .before .before .tolerances .ensures) (a .policy) (a .k) (a .tau))
 
 returns-2 : tie.Need-returns-2
 unfolding bracketRun

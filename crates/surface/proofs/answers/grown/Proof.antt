@@ -6,7 +6,7 @@ use Rattle.surface.proofs.answers.grown.Tie as tie
 
 returns : tie.Need-returns
 unfolding grownOf
-returns c = cc
+returns c = c .new .ensures
 
 pub grown-spec : {M : Type 1} → statement M
 grown-spec =

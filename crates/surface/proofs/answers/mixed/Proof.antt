@@ -6,7 +6,7 @@ use Rattle.surface.proofs.answers.mixed.Tie as tie
 
 returns : tie.Need-returns
 unfolding mixedOf
-returns c = cc
+returns c = c .new .ensures
 
 pub mixed-spec : {M : Type 1} → statement M
 mixed-spec =

@@ -1,9 +1,11 @@
 -- `surface::axis::holds` meets its contract. Assumes nothing.
 use Rattle.surface.specs.Axis.{heldOf, heldTurn}
 use Rattle.laws.proofs.Loops.{again, ended}
-use mathlib.Core.Path.{_≡_, refl}
+use mathlib.Core.Path.{_≡_, refl, ap₂}
+use mathlib.Core.Bool.{_||_}
 use Rattle.laws.specs.Loop.{for}
-use Prim.Native.Nat.{_-_}
+use Prim.Native.Nat.{ℕ, _-_}
+use lib.Dec.{eqb}
 use lib.ListN.{length}
 use borrow.Author.Needs.{needs}
 use Rattle.surface.proofs.axis.holds.Statement.{statement}
@@ -21,7 +23,7 @@ loop-holds c = (refl, refl)
 
 loop-again : tie.Need-loop-again Inv-loop μ-loop
 loop-again c =
-    (c .before .before .before .loop .inv .0, again _ _ _ (c .before .before .loop-test .taken) (cc (c .bits-of2 .ensures, c .before .before .before .before .bits-of .ensures)) (c .before .before .before .loop .inv .1))
+    (c .before .before .before .loop .inv .0, again _ _ _ (c .before .before .loop-test .taken) (ap₂ (λ (a b : ℕ). c .before .before .before .loop .found || eqb a b) (c .bits-of2 .ensures) (c .before .before .before .before .bits-of .ensures)) (c .before .before .before .loop .inv .1))
 
 returns : tie.Need-returns Inv-loop μ-loop
 returns c = ended _ _ _ (c .loop-test .left) (c .before .loop .inv .1)

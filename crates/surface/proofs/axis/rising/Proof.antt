@@ -5,7 +5,9 @@ use Rattle.laws.proofs.Loops.{again, ended}
 use mathlib.Core.Path.{_≡_, refl, ap}
 use Rattle.laws.specs.Loop.{for}
 use borrow.Author.Tests.{eq-eqb, ne-eqb}
-use mathlib.Core.Bool.{Bool}
+use mathlib.Core.Bool.{Bool, _&&_}
+use lib.Ieee.{lt}
+use Rattle.laws.specs.Floats.{at}
 use Prim.Native.Nat.{_-_, _≤_}
 use lib.ListN.{length}
 use borrow.Author.Needs.{needs}
@@ -30,7 +32,9 @@ loop-holds c =
 
 loop-again : tie.Need-loop-again Inv-loop μ-loop
 loop-again c =
-    (c .before .before .before .before .loop .inv .0, search needs, again _ _ _ (c .before .before .before .loop-test .taken) (cc (c .is-finite2 .ensures)) (c .before .before .before .before .loop .inv .2))
+    let v = c .before .before .before .before .before .before .before .before .before .args .v .now in
+    let i = c .before .before .before .before .loop .i in
+    (c .before .before .before .before .loop .inv .0, search needs, again _ _ _ (c .before .before .before .loop-test .taken) (ap (λ (b : Bool). c .before .before .before .before .loop .ok && (b && lt (at v (i - 1)) (at v i))) (c .is-finite2 .ensures)) (c .before .before .before .before .loop .inv .2))
 
 returns-2 : tie.Need-returns-2 Inv-loop μ-loop
 returns-2 c = ended _ _ _ (c .loop-test .left) (c .before .loop .inv .2)

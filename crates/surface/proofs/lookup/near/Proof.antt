@@ -1,12 +1,14 @@
 -- `surface::lookup::near` meets its contract. Assumes nothing.
 use Rattle.surface.specs.Lookup.{nearOf}
+use mathlib.Core.Path.{ap}
+use lib.Ieee.{Float, le}
 use borrow.Author.Needs.{needs}
 use Rattle.surface.proofs.lookup.near.Statement.{statement}
 use Rattle.surface.proofs.lookup.near.Tie as tie
 
 returns : tie.Need-returns
 unfolding nearOf
-returns c = cc
+returns c = ap (λ (x : Float). le x (c .before .args .tol)) (c .magnitude .ensures)
 
 pub near-spec : {M : Type 1} → statement M
 near-spec =

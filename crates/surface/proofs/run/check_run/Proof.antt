@@ -1,7 +1,10 @@
 -- `surface::run::check_run` meets its contract. Assumes nothing.
-use Rattle.surface.specs.Runs.{checkRun}
+use Rattle.surface.specs.Runs.{checkRun, risesOf}
 use Rattle.laws.proofs.Choices.{if-true, if-false, number-goes, number-no}
-use mathlib.Core.Path.{refl}
+use mathlib.Core.Path.{refl, ap, _∙_}
+use mathlib.Core.Bool.{Bool, cond}
+use mathlib.Core.List.{List}
+use lib.Ieee.{Float}
 use Prim.Native.Nat.{ℕ}
 use borrow.Author.Tests.{lt-ltb, le-ltb}
 use borrow.Author.Needs.{needs}
@@ -25,7 +28,7 @@ returns-4 : tie.Need-returns-4
 unfolding checkRun
 returns-4 c =
     if-false _ (le-ltb _ _ (c .before .before .before .before .before .before .before .if1 .left)) (number-goes _ (c .before .before .before .before .before .before .first-bad .ensures) (c .before .before .before .before .before .if2 .left) (if-false _ (le-ltb _ _ (c .before .before .before .before .if3 .left))
-    (cc (c .pick-number .ensures, c .before .rises .ensures, c .before .before .before .taus-of .ensures))))
+    (c .pick-number .ensures ∙ ap (λ (b : Bool). cond b 0 33) (c .before .rises .ensures ∙ ap (λ (l : List Float). risesOf l (c .before .before .before .before .before .before .before .before .before .args .run .count)) (c .before .before .before .taus-of .ensures)))))
 
 pub check-run-spec : {M : Type 1} → statement M
 check-run-spec =

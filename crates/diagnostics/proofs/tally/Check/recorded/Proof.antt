@@ -6,7 +6,7 @@ use Rattle.diagnostics.proofs.tally.Check.recorded.Tie as tie
 
 returns : tie.Need-returns
 unfolding recordedOf
-returns c = cc
+returns c = λ i. record { points = c .before .before .before .bumped .ensures i; violations = c .before .bumped2 .ensures i; worst = c .worse .ensures i }
 
 pub recorded-spec : {M : Type 1} → statement M
 recorded-spec =
