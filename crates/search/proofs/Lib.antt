@@ -1,6 +1,7 @@
 pub mod Sums
 pub mod Passes
 pub mod Trail
+mod Windows
 pub mod Least
 pub mod Chosen
 pub mod SearchCounts

@@ -1,12 +1,12 @@
 -- Laws of writing: one text after another, digits, and lists of values as they are written. Assumes nothing.
 use Prim.Native.Nat.{ℕ, zero, suc, _+_, _-_, _/_, _%_, _≤_, _<_}
-use mathlib.Core.Path.{_≡_, refl, sym, ap, _∙_}
+use mathlib.Core.Path.{_≡_, refl, sym, ap, subst, _∙_}
 use mathlib.Core.Bool.{Bool, true, false, cond}
 use mathlib.Core.List.{List, [], _∷_, _++_, append-assoc, append-nil}
 use native.Mathlib.Omega.{arith}
-use native.Mathlib.Nat.{mod-lt, zero-add, sub-zero}
+use native.Mathlib.Nat.{le-refl, mod-lt, zero-add, sub-zero}
 use native.Mathlib.Numerals.{add-one, sub-one}
-use lib.ListN.{length, take, drop, set, getD, length-append, length-drop, take-append-drop}
+use lib.ListN.{length, take, drop, set, getD, replicate, length-replicate, length-append, length-drop, take-append-drop}
 use lib.Seq.{set-split, take-suc, take-at, drop-at, length-take-le, drop-drop, take-all}
 use Rattle.laws.specs.Loop.{turns, for}
 use Rattle.laws.proofs.Loops.{turns-last}
@@ -78,6 +78,27 @@ text-more l l₁ l₂ at at₁ at₂ t j h a b = rw (add-one j, take-suc t j 0 h
 
 pub text-done : {l l′ : List ℕ} {at at′ : ℕ} (t : List ℕ) (j : ℕ) → length t ≤ j → Wrote l l′ at at′ (take j t) → Wrote l l′ at at′ t
 text-done t j h w = rw (take-all j t h) at w
+
+-- a blank page: its length, and room on it, without counting it out
+abbrev pub blank : ℕ → List ℕ
+blank n = replicate n 0
+
+pub page-long : (n : ℕ) → n ≡ length (blank n)
+page-long n = sym (length-replicate {A = ℕ} n 0)
+
+pub page-room : (n k : ℕ) → k ≤ n → k ≤ length (blank n)
+page-room n k h = subst (λ (m : ℕ). k ≤ m) (page-long n) h
+
+pub page-within : (n : ℕ) → length (blank n) ≤ n
+page-within n = subst (λ (m : ℕ). m ≤ n) (page-long n) (le-refl n)
+
+-- what was written ends within the list
+pub wrote-within : {l l′ : List ℕ} {at at′ : ℕ} {t : List ℕ} → Wrote l l′ at at′ t → at′ ≤ length l′
+wrote-within {at′ = at′} w = subst (λ (m : ℕ). at′ ≤ m) (sym (wrote-long w)) (w .room)
+
+-- b more after a place p that is at most a
+pub more-fits : (l : List ℕ) (p a b n : ℕ) → length l ≡ n → p ≤ a → a + b ≤ n → p + b ≤ length l
+more-fits l p a b n e h k = omega arith
 
 -- where the text is another's
 pub wrote-as : {l l′ : List ℕ} {at at′ : ℕ} {t u : List ℕ} → u ≡ t → Wrote l l′ at at′ t → Wrote l l′ at at′ u

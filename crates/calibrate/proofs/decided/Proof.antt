@@ -1,7 +1,6 @@
 -- `calibrate::decided` meets its contract. Assumes nothing.
 use mathlib.Core.Path.{_∙_}
 use Rattle.calibrate.proofs.Deciding.{decided-is}
-use borrow.Author.Needs.{needs}
 use Rattle.calibrate.proofs.decided.Statement.{statement}
 use Rattle.calibrate.proofs.decided.Tie as tie
 
@@ -18,10 +17,10 @@ pub decided-spec : {M : Type 1} → statement M
 decided-spec =
     tie.close
     (tie.spec
-    (λ c κs. search needs)
-    (λ c κs. search needs)
-    (λ c κs. search needs)
-    (λ c κs. search needs)
-    (λ c κs. search needs)
+    (λ c κs. tt)
+    (λ c κs. tt)
+    (λ c κs. tt)
+    (λ c κs. tt)
+    (λ c κs. tt)
     search-end-requires
     returns)

@@ -97,11 +97,11 @@ pub fit-slice-spec : {M : Type 1} → statement M
 fit-slice-spec =
     tie.close
     (tie.spec
-    (λ c κs. search needs)
-    (λ c κs. search needs)
+    (λ c κs. tt)
+    (λ c κs. tt)
     returns
-    (λ c κs. search needs)
-    (λ c κs. search needs)
+    (λ c κs. tt)
+    (λ c κs. tt)
     returns-2
     array-share-prefix-ts
     slice-aggregate-decided
@@ -109,7 +109,7 @@ fit-slice-spec =
     returns-3
     write-residuals-requires
     list-capped-requires
-    (λ c κs. search needs)
+    (λ c κs. tt)
     (λ c. search needs)
     (λ c. search needs)
     returns-4)

@@ -3,7 +3,6 @@ use mathlib.Core.Path.{sym, _∙_}
 use borrow.Author.Tests.{not-false}
 use Rattle.laws.proofs.Choices.{stops, goes}
 use Rattle.search.specs.Run.{runOf}
-use borrow.Author.Needs.{needs}
 use Rattle.search.proofs.run.Statement.{statement}
 use Rattle.search.proofs.run.Tie as tie
 
@@ -19,4 +18,4 @@ unfolding runOf
 returns-2 c = goes _ (c .before .before .sizes-hold .ensures) (c .before .if1 .left) (c .searched .ensures)
 
 pub run-spec : {M : Type 1} → statement M
-run-spec = tie.close (tie.spec (λ c κs. search needs) (λ c κs. search needs) returns searched-requires returns-2)
+run-spec = tie.close (tie.spec (λ c κs. tt) (λ c κs. tt) returns searched-requires returns-2)

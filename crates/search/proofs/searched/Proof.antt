@@ -7,7 +7,6 @@ use Rattle.search.specs.Run.{fitCell}
 use Rattle.search.proofs.Trail.{after-start, ended-early, stepped}
 use Rattle.search.proofs.SearchCounts.{sizes-are, roomy}
 use Rattle.search.proofs.NoBetterFace.{fit-most}
-use borrow.Author.Needs.{needs}
 use native.Mathlib.Omega.{arith}
 use Rattle.search.proofs.searched.Statement.{statement}
 use Rattle.search.proofs.searched.Tie as tie
@@ -60,7 +59,7 @@ searched-spec =
     mul-limit
     add-limit
     add-limit-2
-    (λ c κs. search needs)
+    (λ c κs. tt)
     loop-holds
     returns
     step-requires

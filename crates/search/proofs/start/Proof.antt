@@ -1,12 +1,23 @@
 -- `search::start` meets its contract. Assumes nothing.
-use Rattle.search.specs.Search.{startOf}
-use borrow.Author.Needs.{needs}
+use mathlib.Core.Bool.{true, false}
+use Rattle.laws.specs.Floats.{+0}
+use Rattle.search.specs.Search.{width, noCounts, startOf}
 use Rattle.search.proofs.start.Statement.{statement}
 use Rattle.search.proofs.start.Tie as tie
 
 returns : tie.Need-returns
 unfolding startOf
-returns c = cc
+returns c =
+    let p = c .before .before .before .args .p in
+    λ i.
+    record {
+      going = true;
+      refused = false;
+      window = p .domain;
+      smallest = width (p .domain .m);
+      found = record { cell = c .before .before .no-cell .ensures i; m = +0; ls = +0; «on_edge» = true };
+      counts = noCounts;
+    }
 
 pub start-spec : {M : Type 1} → statement M
-start-spec = tie.close (tie.spec (λ c κs. search needs) returns)
+start-spec = tie.close (tie.spec (λ c κs. tt) returns)

@@ -10,7 +10,6 @@ use Rattle.search.proofs.Sums.{sum, sum-most}
 use Rattle.search.proofs.Passes.{CountsTo, facesAt, rows-counts}
 use Rattle.search.proofs.SearchCounts.{grid-cells}
 use Rattle.search.proofs.NoBetterFace.{fit-most}
-use borrow.Author.Needs.{needs}
 use native.Mathlib.Omega.{arith}
 use Rattle.search.proofs.step.Statement.{statement}
 use Rattle.search.proofs.step.Tie as tie
@@ -48,4 +47,4 @@ unfolding stepOf
 returns-2 c = rw (← c .before .before .before .pass .ensures, ← c .before .before .counted .ensures) (if-false _ (c .before .if1 .left) (c .refuse .ensures))
 
 pub step-spec : {M : Type 1} → statement M
-step-spec = tie.close (tie.spec pass-requires counted-requires moved-requires returns (λ c κs. search needs) returns-2)
+step-spec = tie.close (tie.spec pass-requires counted-requires moved-requires returns (λ c κs. tt) returns-2)

@@ -1,7 +1,6 @@
 -- `calibrate::ending::end` meets its contract. Assumes nothing.
 use Rattle.laws.proofs.Choices.{stops, goes, number-stops, number-goes}
 use Rattle.calibrate.specs.End.{endOf}
-use borrow.Author.Needs.{needs}
 use Rattle.calibrate.proofs.ending.end.Statement.{statement}
 use Rattle.calibrate.proofs.ending.end.Tie as tie
 
@@ -33,16 +32,16 @@ pub end-spec : {M : Type 1} → statement M
 end-spec =
     tie.close
     (tie.spec
-    (λ c κs. search needs)
-    (λ c κs. search needs)
+    (λ c κs. tt)
+    (λ c κs. tt)
     returns
-    (λ c κs. search needs)
-    (λ c κs. search needs)
-    (λ c κs. search needs)
+    (λ c κs. c .before .before .before .before .before .pre)
+    (λ c κs. tt)
+    (λ c κs. tt)
     returns-2
-    (λ c κs. search needs)
-    (λ c κs. search needs)
-    (λ c κs. search needs)
+    (λ c κs. tt)
+    (λ c κs. tt)
+    (λ c κs. tt)
     returns-3
-    (λ c κs. search needs)
+    (λ c κs. tt)
     returns-4)

@@ -12,4 +12,4 @@ returns-2 : tie.Need-returns-2
 returns-2 c = ap readingOf (sym (c .enum-told .given .1) ∙ c .before .before .eval-tested .ensures)
 
 pub reading-at-spec : {M : Type 1} → statement M
-reading-at-spec = tie.close (tie.spec (λ c κs. search needs) (λ c. search needs) (λ c. search needs) returns returns-2)
+reading-at-spec = tie.close (tie.spec (λ c κs. tt) (λ c. search needs) (λ c. search needs) returns returns-2)

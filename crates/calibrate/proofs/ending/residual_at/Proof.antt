@@ -1,12 +1,13 @@
 -- `calibrate::ending::residual_at` meets its contract. Assumes nothing.
-use Rattle.calibrate.specs.End.{residualAt}
-use borrow.Author.Needs.{needs}
+use Rattle.calibrate.proofs.Deciding.{residual-is}
 use Rattle.calibrate.proofs.ending.residual_at.Statement.{statement}
 use Rattle.calibrate.proofs.ending.residual_at.Tie as tie
 
 returns : tie.Need-returns
-unfolding residualAt
-returns c = cc
+returns c =
+    let a = c .before .before .before .before .before .before .args in
+    residual-is (a .s) (a .k) (a .w) (c .before .before .before .before .before .reading-at .result) (c .before .before .before .sqrt .result) (c .sqrt2 .result)
+    (c .before .before .before .before .before .reading-at .ensures) (c .before .before .before .sqrt .ensures) (c .sqrt2 .ensures)
 
 pub residual-at-spec : {M : Type 1} → statement M
-residual-at-spec = tie.close (tie.spec (λ c κs. search needs) (λ c κs. search needs) (λ c κs. search needs) returns)
+residual-at-spec = tie.close (tie.spec (λ c κs. tt) (λ c κs. tt) (λ c κs. tt) returns)

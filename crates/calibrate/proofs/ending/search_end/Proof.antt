@@ -1,7 +1,6 @@
 -- `calibrate::ending::search_end` meets its contract. Assumes nothing.
 use Rattle.laws.proofs.Choices.{if-true, if-false}
 use Rattle.calibrate.specs.Fit.{searchEnd}
-use borrow.Author.Needs.{needs}
 use Rattle.calibrate.proofs.ending.search_end.Statement.{statement}
 use Rattle.calibrate.proofs.ending.search_end.Tie as tie
 
@@ -18,4 +17,4 @@ unfolding searchEnd
 returns-3 c = if-false _ (c .before .before .before .if1 .left) (if-false _ (c .before .if2 .left) (c .best-end .ensures))
 
 pub search-end-spec : {M : Type 1} → statement M
-search-end-spec = tie.close (tie.spec (λ c κs. search needs) returns (λ c κs. search needs) returns-2 (λ c κs. search needs) returns-3)
+search-end-spec = tie.close (tie.spec (λ c κs. tt) returns (λ c κs. tt) returns-2 (λ c κs. c .before .before .before .before .before .before .before .pre) returns-3)

@@ -8,7 +8,6 @@ use Rattle.laws.proofs.Loops.{again, ended}
 use Rattle.calibrate.specs.declared.Residual.{Residual}
 use Rattle.calibrate.specs.End.{residualAt, addedTo, sumsOf}
 use native.Mathlib.Omega.{arith}
-use borrow.Author.Needs.{needs}
 use Rattle.calibrate.proofs.ending.sums_of.Statement.{statement}
 use Rattle.calibrate.proofs.ending.sums_of.Tie as tie
 
@@ -42,12 +41,12 @@ sums-of-spec =
     (λ c. omega arith)
     (λ c. omega arith)
     (λ c. omega arith)
-    (λ c κs. search needs)
+    (λ c κs. tt)
     (λ c. omega arith)
     (λ c. omega arith)
     (λ c. omega arith)
     (λ c. omega arith)
-    (λ c κs. search needs)
+    (λ c κs. tt)
     (λ c. omega arith)
     (λ c. omega arith)
     loop-again

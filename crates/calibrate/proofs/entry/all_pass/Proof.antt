@@ -8,7 +8,6 @@ use Rattle.laws.proofs.Loops.{again, ended}
 use mathlib.Core.Bool.{Bool, _&&_}
 use Rattle.calibrate.specs.Entry.{passes, allPass}
 use native.Mathlib.Omega.{arith}
-use borrow.Author.Needs.{needs}
 use Rattle.calibrate.proofs.entry.all_pass.Statement.{statement}
 use Rattle.calibrate.proofs.entry.all_pass.Tie as tie
 
@@ -41,7 +40,7 @@ all-pass-spec =
     (λ c. omega arith)
     (λ c. omega arith)
     (λ c. omega arith)
-    (λ c κs. search needs)
+    (λ c κs. tt)
     (λ c. omega arith)
     (λ c. omega arith)
     loop-again

@@ -5,7 +5,6 @@ use Rattle.laws.specs.Floats.{positive}
 use Rattle.laws.proofs.Choices.{stops, goes, if-true, if-false}
 use Rattle.calibrate.specs.Entry.{checksNumber}
 use Rattle.calibrate.proofs.Known.{lengths-are}
-use borrow.Author.Needs.{needs}
 use Rattle.calibrate.proofs.entry.checks.Statement.{statement}
 use Rattle.calibrate.proofs.entry.checks.Tie as tie
 
@@ -50,18 +49,18 @@ pub checks-spec : {M : Type 1} → statement M
 checks-spec =
     tie.close
     (tie.spec
-    (λ c κs. search needs)
+    (λ c κs. tt)
     returns
-    (λ c κs. search needs)
+    (λ c κs. tt)
     returns-2
     all-pass-requires
     returns-3
-    (λ c κs. search needs)
+    (λ c κs. tt)
     returns-4
-    (λ c κs. search needs)
+    (λ c κs. tt)
     returns-5
     returns-6
-    (λ c κs. search needs)
-    (λ c κs. search needs)
+    (λ c κs. tt)
+    (λ c κs. tt)
     returns-7
     returns-8)

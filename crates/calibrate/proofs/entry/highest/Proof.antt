@@ -8,7 +8,6 @@ use Rattle.laws.proofs.Loops.{again, ended}
 use Rattle.laws.specs.Floats.{maxOf}
 use Rattle.calibrate.specs.End.{highestOf}
 use native.Mathlib.Omega.{arith}
-use borrow.Author.Needs.{needs}
 use Rattle.calibrate.proofs.entry.highest.Statement.{statement}
 use Rattle.calibrate.proofs.entry.highest.Tie as tie
 
@@ -37,7 +36,7 @@ highest-spec =
     loop-holds
     (λ c. omega arith)
     (λ c. omega arith)
-    (λ c κs. search needs)
+    (λ c κs. tt)
     (λ c. omega arith)
     (λ c. omega arith)
     loop-again

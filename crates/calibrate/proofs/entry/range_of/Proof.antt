@@ -8,7 +8,6 @@ use Rattle.laws.proofs.Loops.{again, ended}
 use Rattle.laws.specs.Floats.{minOf, maxOf}
 use Rattle.calibrate.specs.Entry.{rangeOf}
 use native.Mathlib.Omega.{arith}
-use borrow.Author.Needs.{needs}
 use Rattle.calibrate.proofs.entry.range_of.Statement.{statement}
 use Rattle.calibrate.proofs.entry.range_of.Tie as tie
 
@@ -23,7 +22,7 @@ unfolding rangeOf
 loop-holds c = refl
 
 loop-again : tie.Need-loop-again Inv-loop μ-loop
-loop-again c = again _ _ _ (c .before .before .before .before .loop-test .taken) (cc) (c .before .before .before .before .before .loop .inv)
+loop-again c = again _ _ _ (c .before .before .before .before .loop-test .taken) (λ j. record { lo = c .before .before .min .ensures j; hi = c .max .ensures j }) (c .before .before .before .before .before .loop .inv)
 
 returns : tie.Need-returns Inv-loop μ-loop
 returns c = ended _ _ _ (c .loop-test .left) (c .before .loop .inv)
@@ -37,10 +36,10 @@ range-of-spec =
     loop-holds
     (λ c. omega arith)
     (λ c. omega arith)
-    (λ c κs. search needs)
+    (λ c κs. tt)
     (λ c. omega arith)
     (λ c. omega arith)
-    (λ c κs. search needs)
+    (λ c κs. tt)
     (λ c. omega arith)
     (λ c. omega arith)
     loop-again

@@ -1,10 +1,12 @@
 -- `calibrate::entry::span_of` meets its contract. Assumes nothing.
-use borrow.Author.Needs.{needs}
+use mathlib.Core.Path.{ap}
+use Rattle.laws.specs.Floats.{_-f_}
+use Rattle.slice.specs.declared.KRange.{KRange}
 use Rattle.calibrate.proofs.entry.span_of.Statement.{statement}
 use Rattle.calibrate.proofs.entry.span_of.Tie as tie
 
 returns : tie.Need-returns
-returns c = cc
+returns c = ap (λ (t : KRange). t .hi -f t .lo) (c .before .range-of .ensures)
 
 pub span-of-spec : {M : Type 1} → statement M
-span-of-spec = tie.close (tie.spec (λ c κs. search needs) returns)
+span-of-spec = tie.close (tie.spec (λ c κs. tt) returns)

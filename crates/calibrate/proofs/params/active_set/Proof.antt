@@ -11,7 +11,6 @@ use Rattle.laws.specs.Floats.{_-f_}
 use Rattle.cell.specs.Polytope.{dotOf}
 use Rattle.calibrate.specs.End.{activeOf}
 use native.Mathlib.Omega.{arith}
-use borrow.Author.Needs.{needs}
 use Rattle.calibrate.proofs.params.active_set.Statement.{statement}
 use Rattle.calibrate.proofs.params.active_set.Tie as tie
 
@@ -41,7 +40,7 @@ active-set-spec =
     μ-loop
     loop-holds
     (λ c. omega arith)
-    (λ c κs. search needs)
+    (λ c κs. tt)
     (λ c. omega arith)
     (λ c. omega arith)
     (λ c. omega arith)

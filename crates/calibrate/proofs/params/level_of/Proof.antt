@@ -1,18 +1,15 @@
 -- `calibrate::params::level_of` meets its contract. Assumes nothing.
-use borrow.Author.Needs.{needs}
+use mathlib.Core.Path.{_∙_}
+use mathlib.Core.Bool.{cond}
+use lib.Dec.{lit<}
+use Rattle.calibrate.specs.End.{mark}
 use Rattle.calibrate.proofs.params.level_of.Statement.{statement}
 use Rattle.calibrate.proofs.params.level_of.Tie as tie
 
 returns : tie.Need-returns
-returns c = cc
+returns c =
+    let a = c .before .before .args in
+    c .pick2 .ensures ∙ (λ i. cond (mark (a .t1) 5) (a .a-min) (c .before .pick .ensures i))
 
 pub level-of-spec : {M : Type 1} → statement M
-level-of-spec =
-    tie.close
-    (tie.spec
-    (λ c. search needs)
-    (λ c. search needs)
-    (λ c. search needs)
-    (λ c κs. search needs)
-    (λ c κs. search needs)
-    returns)
+level-of-spec = tie.close (tie.spec (λ c. lit< tt) (λ c. lit< tt) (λ c. lit< tt) (λ c κs. tt) (λ c κs. tt) returns)

@@ -3,7 +3,6 @@ use Prim.Native.Nat.{_-_}
 use lib.ListN.{length, length-set}
 use Rattle.calibrate.proofs.Quads.{Rows, rows-start, rows-next, rows-end}
 use native.Mathlib.Omega.{arith}
-use borrow.Author.Needs.{needs}
 use Rattle.calibrate.proofs.writing.write_residuals.Statement.{statement}
 use Rattle.calibrate.proofs.writing.write_residuals.Tie as tie
 
@@ -48,7 +47,7 @@ write-residuals-spec =
     (λ c. omega arith)
     (λ c. omega arith)
     (λ c. omega arith)
-    (λ c κs. search needs)
+    (λ c κs. tt)
     (λ c. omega arith)
     (λ c. omega arith)
     (λ c. omega arith)

@@ -7,7 +7,6 @@ use lib.Ieee.{Float}
 use Rattle.laws.proofs.Choices.{cond-ind}
 use Rattle.cell.specs.Cell.{inRange}
 use Rattle.cell.proofs.Laws.{inner-lent, ys-length, hs-length}
-use borrow.Author.Needs.{needs}
 use Rattle.search.proofs.grid.cell_at.Statement.{statement}
 use Rattle.search.proofs.grid.cell_at.Tie as tie
 
@@ -29,4 +28,4 @@ returns c =
     )
 
 pub cell-at-spec : {M : Type 1} → statement M
-cell-at-spec = tie.close (tie.spec (λ c κs. search needs) returns)
+cell-at-spec = tie.close (tie.spec (λ c κs. tt) returns)

@@ -62,8 +62,8 @@ pass-spec =
     (tie.spec
     Inv-loop
     μ-loop
-    (λ c κs. search needs)
-    (λ c κs. search needs)
+    (λ c κs. tt)
+    (λ c κs. c .before .before .before .before .before .pre)
     loop-holds
     row-requires
     (λ c. omega arith)

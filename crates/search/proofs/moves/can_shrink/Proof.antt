@@ -1,12 +1,16 @@
 -- `search::moves::can_shrink` meets its contract. Assumes nothing.
+use mathlib.Core.Bool.{_&&_}
+use lib.Dec.{ltb}
+use lib.Ieee.{lt}
+use Rattle.laws.specs.Floats.{+0}
 use Rattle.search.specs.Search.{canShrink}
-use borrow.Author.Needs.{needs}
 use Rattle.search.proofs.moves.can_shrink.Statement.{statement}
 use Rattle.search.proofs.moves.can_shrink.Tie as tie
 
 returns : tie.Need-returns
 unfolding canShrink
-returns c = cc
+returns c =
+    λ i. ltb (c .before .before .before .before .args .n .shrinks) (c .before .before .before .before .args .p .refinements) && (lt +0 (c .before .before .before .step-on .ensures i) && lt +0 (c .before .before .step-on2 .ensures i))
 
 pub can-shrink-spec : {M : Type 1} → statement M
-can-shrink-spec = tie.close (tie.spec (λ c κs. search needs) (λ c κs. search needs) returns)
+can-shrink-spec = tie.close (tie.spec (λ c κs. tt) (λ c κs. tt) returns)

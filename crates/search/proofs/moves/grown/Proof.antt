@@ -1,10 +1,13 @@
 -- `search::moves::grown` meets its contract. Assumes nothing.
-use borrow.Author.Needs.{needs}
+use mathlib.Core.Path.{_∙_}
+use mathlib.Core.Bool.{cond}
+use Rattle.laws.specs.Floats.{_*f_, half}
+use Rattle.search.specs.Search.{width}
 use Rattle.search.proofs.moves.grown.Statement.{statement}
 use Rattle.search.proofs.moves.grown.Tie as tie
 
 returns : tie.Need-returns
-returns c = cc
+returns c = c .pick .ensures ∙ (λ i. cond (c .before .before .before .args .edge) (c .before .min .ensures i) (half *f width (c .before .before .before .args .a)))
 
 pub grown-spec : {M : Type 1} → statement M
-grown-spec = tie.close (tie.spec (λ c κs. search needs) (λ c κs. search needs) returns)
+grown-spec = tie.close (tie.spec (λ c κs. tt) (λ c κs. tt) returns)

@@ -1,6 +1,5 @@
 -- `search::moves::moved` meets its contract. Assumes nothing.
 use Rattle.search.specs.Search.{movedOf}
-use borrow.Author.Needs.{needs}
 use Rattle.search.proofs.moves.moved.Statement.{statement}
 use Rattle.search.proofs.moves.moved.Tie as tie
 
@@ -20,13 +19,13 @@ pub moved-spec : {M : Type 1} → statement M
 moved-spec =
     tie.close
     (tie.spec
-    (λ c κs. search needs)
-    (λ c κs. search needs)
-    (λ c κs. search needs)
-    (λ c κs. search needs)
+    (λ c κs. tt)
+    (λ c κs. tt)
+    (λ c κs. tt)
+    (λ c κs. c .before .before .before .before .pre .0)
     returns
-    (λ c κs. search needs)
-    (λ c κs. search needs)
+    (λ c κs. tt)
+    (λ c κs. c .before .before .before .before .before .before .pre .1)
     returns-2
-    (λ c κs. search needs)
+    (λ c κs. tt)
     returns-3)

@@ -1,6 +1,5 @@
 -- `search::moves::place_of` meets its contract. Assumes nothing.
 use Rattle.search.specs.Search.{placeOf}
-use borrow.Author.Needs.{needs}
 use Rattle.search.proofs.moves.place_of.Statement.{statement}
 use Rattle.search.proofs.moves.place_of.Tie as tie
 
@@ -9,12 +8,4 @@ unfolding placeOf
 returns c = cc
 
 pub place-of-spec : {M : Type 1} → statement M
-place-of-spec =
-    tie.close
-    (tie.spec
-    (λ c κs. search needs)
-    (λ c κs. search needs)
-    (λ c κs. search needs)
-    (λ c κs. search needs)
-    (λ c κs. search needs)
-    returns)
+place-of-spec = tie.close (tie.spec (λ c κs. tt) (λ c κs. tt) (λ c κs. tt) (λ c κs. tt) (λ c κs. tt) returns)

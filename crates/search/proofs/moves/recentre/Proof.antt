@@ -1,20 +1,14 @@
 -- `search::moves::recentre` meets its contract. Assumes nothing.
-use Rattle.search.specs.Search.{recentred}
-use borrow.Author.Needs.{needs}
+use native.Mathlib.Omega.{arith}
+use Rattle.search.proofs.Windows.{recentred-is}
 use Rattle.search.proofs.moves.recentre.Statement.{statement}
 use Rattle.search.proofs.moves.recentre.Tie as tie
 
 returns : tie.Need-returns
-unfolding recentred
-returns c = cc
+returns c =
+    let a = c .before .before .before .before .before .args in
+    recentred-is (a .p) (a .s) (a .n) (a .a) (a .o) (c .before .before .before .before .grown .result) (c .before .before .before .grown2 .result) (c .before .before .within .result) (c .before .within2 .result)
+    (c .before .before .before .before .grown .ensures) (c .before .before .before .grown2 .ensures) (c .before .before .within .ensures) (c .before .within2 .ensures)
 
 pub recentre-spec : {M : Type 1} → statement M
-recentre-spec =
-    tie.close
-    (tie.spec
-    (λ c κs. search needs)
-    (λ c κs. search needs)
-    (λ c κs. search needs)
-    (λ c κs. search needs)
-    (λ c. search needs)
-    returns)
+recentre-spec = tie.close (tie.spec (λ c κs. tt) (λ c κs. tt) (λ c κs. tt) (λ c κs. tt) (λ c. omega arith) returns)

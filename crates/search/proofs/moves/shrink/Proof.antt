@@ -1,12 +1,13 @@
 -- `search::moves::shrink` meets its contract. Assumes nothing.
-use Rattle.search.specs.Search.{shrunk}
-use borrow.Author.Needs.{needs}
+use native.Mathlib.Omega.{arith}
+use Rattle.search.proofs.Windows.{shrunk-is}
 use Rattle.search.proofs.moves.shrink.Statement.{statement}
 use Rattle.search.proofs.moves.shrink.Tie as tie
 
 returns : tie.Need-returns
-unfolding shrunk
-returns c = cc
+returns c =
+    let a = c .before .before .before .before .before .before .args in
+    shrunk-is (a .p) (a .s) (a .n) (a .o) (c .before .before .before .before .before .narrow .result) (c .before .before .pick .result) (c .pick-count .result) (c .before .before .before .before .before .narrow .ensures) (c .before .before .pick .ensures) (c .pick-count .ensures)
 
 pub shrink-spec : {M : Type 1} → statement M
-shrink-spec = tie.close (tie.spec (λ c κs. search needs) (λ c κs. search needs) (λ c. search needs) (λ c κs. search needs) returns)
+shrink-spec = tie.close (tie.spec (λ c κs. tt) (λ c κs. tt) (λ c. omega arith) (λ c κs. tt) returns)

@@ -1,5 +1,6 @@
 -- `text::answers::early` meets its contract. Assumes nothing.
-use borrow.Author.Needs.{needs}
+use mathlib.Core.Path.{_∙_}
+use native.Mathlib.Omega.{arith}
 use Rattle.text.proofs.Writing.{wrote-as, then}
 use Rattle.text.proofs.Answering.{early-bare, early-full}
 use Rattle.text.proofs.answers.early.Statement.{statement}
@@ -15,10 +16,10 @@ pub early-spec : {M : Type 1} → statement M
 early-spec =
     tie.close
     (tie.spec
-    (λ c κs. search needs)
-    (λ c. search needs)
+    (λ c κs. omega arith)
+    (λ c. c .before .out .given)
     returns
-    (λ c κs. search needs)
-    (λ c κs. search needs)
-    (λ c. search needs)
+    (λ c κs. omega arith)
+    (λ c κs. omega arith)
+    (λ c. c .before .out3 .given ∙ c .before .before .before .before .before .out2 .given)
     returns-2)

@@ -1,5 +1,6 @@
 -- `text::answers::points` meets its contract. Assumes nothing.
-use borrow.Author.Needs.{needs}
+use mathlib.Core.Path.{_∙_}
+use native.Mathlib.Omega.{arith}
 use Rattle.text.proofs.Writing.{then}
 use Rattle.text.proofs.answers.points.Statement.{statement}
 use Rattle.text.proofs.answers.points.Tie as tie
@@ -8,4 +9,4 @@ returns : tie.Need-returns
 returns c = then (c .before .before .before .before .before .before .capped-line .ensures .0) (c .before .before .point-lines .ensures .0)
 
 pub points-spec : {M : Type 1} → statement M
-points-spec = tie.close (tie.spec (λ c κs. search needs) (λ c κs. search needs) (λ c. search needs) returns)
+points-spec = tie.close (tie.spec (λ c κs. omega arith) (λ c κs. omega arith) (λ c. c .before .out2 .given ∙ c .before .before .before .before .before .out .given) returns)

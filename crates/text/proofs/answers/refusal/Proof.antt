@@ -1,7 +1,7 @@
 -- `text::answers::refusal` meets its contract. Assumes nothing.
 use mathlib.Core.Path.{sym, _∙_}
 use borrow.Author.Tests.{not-true, not-false}
-use borrow.Author.Needs.{needs}
+use native.Mathlib.Omega.{arith}
 use Rattle.text.proofs.Writing.{wrote-as, then}
 use Rattle.text.proofs.Answering.{refusal-early, refusal-late}
 use Rattle.text.proofs.answers.refusal.Statement.{statement}
@@ -17,11 +17,11 @@ pub refusal-spec : {M : Type 1} → statement M
 refusal-spec =
     tie.close
     (tie.spec
-    (λ c κs. search needs)
-    (λ c κs. search needs)
-    (λ c. search needs)
+    (λ c κs. tt)
+    (λ c κs. omega arith)
+    (λ c. c .before .out .given)
     returns
-    (λ c κs. search needs)
-    (λ c κs. search needs)
-    (λ c. search needs)
+    (λ c κs. omega arith)
+    (λ c κs. omega arith)
+    (λ c. c .before .out3 .given ∙ c .before .before .before .before .before .out2 .given)
     returns-2)

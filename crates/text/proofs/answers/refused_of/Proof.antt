@@ -1,5 +1,5 @@
 -- `text::answers::refused_of` meets its contract. Assumes nothing.
-use borrow.Author.Needs.{needs}
+use native.Mathlib.Omega.{arith}
 use Rattle.text.proofs.Writing.{wrote-as}
 use Rattle.text.proofs.Answering.{refused-nine, refused-other}
 use Rattle.text.proofs.answers.refused_of.Statement.{statement}
@@ -15,9 +15,9 @@ pub refused-of-spec : {M : Type 1} → statement M
 refused-of-spec =
     tie.close
     (tie.spec
-    (λ c κs. search needs)
-    (λ c. search needs)
+    (λ c κs. omega arith)
+    (λ c. c .before .out .given)
     returns
-    (λ c κs. search needs)
-    (λ c. search needs)
+    (λ c κs. omega arith)
+    (λ c. c .before .out2 .given)
     returns-2)

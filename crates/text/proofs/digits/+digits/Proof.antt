@@ -1,5 +1,4 @@
 -- `text::digits::digits` meets its contract. Assumes nothing.
-use borrow.Author.Needs.{needs}
 use native.Mathlib.Omega.{arith}
 use Prim.Native.Nat.{ℕ, _<_, _-_, _/_}
 use mathlib.Core.Path.{_∙_}
@@ -41,7 +40,7 @@ digits-rem-glyph : (t : ℕ) → digits-lts.Need-rem-glyph (
   digits-below t,
   digits.Post,
 ) (digits-at t) digits.Post
-digits-rem-glyph t c = search needs
+digits-rem-glyph t c = omega arith
 
 digits-glyph-requires : (t : ℕ) → digits-lts.Need-glyph-requires (
   glyph-reads.Asked,
@@ -62,7 +61,7 @@ digits-put-requires : (t : ℕ) → digits-lts.Need-put-requires (
   digits-below t,
   digits.Post,
 ) (digits-at t) digits.Post
-digits-put-requires t c κs = search needs
+digits-put-requires t c κs = omega arith
 
 digits-same-length : (t : ℕ) → digits-lts.Need-same-length (
   glyph-reads.Asked,
@@ -94,7 +93,7 @@ digits-div-digits : (t : ℕ) → digits-lts.Need-div-digits (
   digits-below t,
   digits.Post,
 ) (digits-at t) digits.Post
-digits-div-digits t c = search needs
+digits-div-digits t c = omega arith
 
 digits-sub-digits : (t : ℕ) → digits-lts.Need-sub-digits (
   glyph-reads.Asked,
@@ -104,7 +103,7 @@ digits-sub-digits : (t : ℕ) → digits-lts.Need-sub-digits (
   digits-below t,
   digits.Post,
 ) (digits-at t) digits.Post
-digits-sub-digits t c = search needs
+digits-sub-digits t c = omega arith
 
 digits-digits-requires : (t : ℕ) → digits-lts.Need-digits-requires (
   glyph-reads.Asked,

@@ -1,5 +1,4 @@
 -- `text::digits::counts` meets its contract. Assumes nothing.
-use borrow.Author.Needs.{needs}
 use native.Mathlib.Omega.{arith}
 use Prim.Native.Nat.{_+_, _*_, _-_, _≤_}
 use mathlib.Core.Path.{_≡_, refl}
@@ -19,13 +18,13 @@ abbrev μ-loop : tie.MeasureT-loop
 
 loop-holds : tie.Need-loop-holds Inv-loop μ-loop
 unfolding each
-loop-holds c = (search needs, search needs, refl, wrote-none _ _ (omega arith))
+loop-holds c = (omega arith, omega arith, refl, wrote-none _ _ (omega arith))
 
 loop-again : tie.Need-loop-again Inv-loop μ-loop
 loop-again c =
     let long = wrote-long (c .before .before .before .before .before .before .before .put .ensures) in
     let longer = wrote-long (c .before .before .decimal .ensures .0) in (
-      search needs,
+      omega arith,
       omega (arith, c .before .before .before .before .before .before .before .put .ensures .next, c .before .before .decimal .ensures .1),
       omega (arith, long, longer),
       each-more decimalOf _ _ _ _ _ _ _ _ _ _ (c .before .before .before .before .before .before .before .before .before .before .loop .j) 0 (c .before .before .before .before .before .before .before .before .before .loop-test .taken) refl (c .before .before .before .before .before .before .before .before .before .before .loop .inv .3) (c .before .before .before .before .before .before .before .put .ensures) (c .before .before .decimal .ensures .0),
@@ -41,12 +40,12 @@ counts-spec =
     Inv-loop
     μ-loop
     loop-holds
-    (λ c κs. search needs)
-    (λ c. search needs)
-    (λ c. search needs)
-    (λ c κs. search needs)
-    (λ c. search needs)
-    (λ c. search needs)
+    (λ c κs. omega arith)
+    (λ c. omega arith)
+    (λ c. omega arith)
+    (λ c κs. omega arith)
+    (λ c. omega arith)
+    (λ c. omega arith)
     loop-again
-    (λ c. search needs)
+    (λ c. c .before .loop .inv .2)
     returns)

@@ -1,5 +1,4 @@
 -- `text::digits::floats` meets its contract. Assumes nothing.
-use borrow.Author.Needs.{needs}
 use native.Mathlib.Omega.{arith}
 use Prim.Native.Nat.{ℕ, _+_, _*_, _-_, _≤_}
 use mathlib.Core.Path.{_≡_, refl, ap}
@@ -24,7 +23,7 @@ abbrev μ-loop : tie.MeasureT-loop
 
 loop-holds : tie.Need-loop-holds Inv-loop μ-loop
 unfolding each
-loop-holds c = (search needs, search needs, refl, wrote-none _ _ (omega arith))
+loop-holds c = (omega arith, omega arith, refl, wrote-none _ _ (omega arith))
 
 loop-again : tie.Need-loop-again Inv-loop μ-loop
 loop-again c =
@@ -34,7 +33,7 @@ loop-again c =
     let l = p .before .before .before in
     let long = wrote-long (p .put .ensures) in
     let longer = wrote-long (h .hex .ensures .0) in (
-      search needs,
+      omega arith,
       omega (arith, p .put .ensures .next, h .hex .ensures .1),
       omega (arith, long, longer),
       each-more hex _ _ _ _ _ _ _ _ _ _ (l .loop .j) _ (p .before .before .loop-test .taken) (ap hexOf (b .bits-of .ensures)) (l .loop .inv .3) (p .put .ensures) (h .hex .ensures .0),
@@ -50,13 +49,13 @@ floats-spec =
     Inv-loop
     μ-loop
     loop-holds
-    (λ c κs. search needs)
-    (λ c. search needs)
-    (λ c. search needs)
-    (λ c κs. search needs)
-    (λ c κs. search needs)
-    (λ c. search needs)
-    (λ c. search needs)
+    (λ c κs. omega arith)
+    (λ c. omega arith)
+    (λ c. omega arith)
+    (λ c κs. tt)
+    (λ c κs. omega arith)
+    (λ c. omega arith)
+    (λ c. omega arith)
     loop-again
-    (λ c. search needs)
+    (λ c. c .before .loop .inv .2)
     returns)

@@ -1,7 +1,7 @@
 -- `text::digits::glyph` meets its contract. Assumes nothing.
 use mathlib.Core.Path.{sym}
 use borrow.Author.Tests.{lt-ltb, le-ltb}
-use borrow.Author.Needs.{needs}
+use native.Mathlib.Omega.{arith}
 use Rattle.text.proofs.digits.glyph.Statement.{statement}
 use Rattle.text.proofs.digits.glyph.Tie as tie
 
@@ -13,4 +13,4 @@ returns-2 c = sym (rw (le-ltb (c .before .args .d) 10 (c .if1 .left)))
 
 pub glyph-spec : {M : Type 1} → statement M
 glyph-spec =
-    tie.close (tie.spec (λ c. search needs) (λ c. search needs) (λ c. search needs) (λ c. search needs) returns returns-2)
+    tie.close (tie.spec (λ c. omega arith) (λ c. omega arith) (λ c. omega arith) (λ c. omega arith) returns returns-2)

@@ -1,5 +1,4 @@
 -- `text::digits::marks` meets its contract. Assumes nothing.
-use borrow.Author.Needs.{needs}
 use native.Mathlib.Omega.{arith}
 use Prim.Native.Nat.{ℕ, _+_, _-_, _≤_}
 use mathlib.Core.Path.{_≡_, refl, ap}
@@ -25,13 +24,13 @@ abbrev μ-loop : tie.MeasureT-loop
 
 loop-holds : tie.Need-loop-holds Inv-loop μ-loop
 unfolding turns
-loop-holds c = (search needs, search needs, refl, wrote-none _ _ (omega arith))
+loop-holds c = (omega arith, omega arith, refl, wrote-none _ _ (omega arith))
 
 loop-again : tie.Need-loop-again Inv-loop μ-loop
 loop-again c =
     let long = wrote-long (c .before .before .put .ensures) in
     let m : ℕ = c .before .before .before .mark .result in
-    (search needs, omega (arith, c .before .before .put .ensures .next), omega (arith, long), piece-more (one-mark (c .before .before .before .before .before .before .before .before .args .t3)) (c .before .before .before .before .before .before .loop .i) (ap (λ (b : ℕ). b ∷ []) (c .before .before .before .mark .ensures)) (c .before .before .before .before .before .before .loop .inv .3) (c .before .before .put .ensures))
+    (omega arith, omega (arith, c .before .before .put .ensures .next), omega (arith, long), piece-more (one-mark (c .before .before .before .before .before .before .before .before .args .t3)) (c .before .before .before .before .before .before .loop .i) (ap (λ (b : ℕ). b ∷ []) (c .before .before .before .mark .ensures)) (c .before .before .before .before .before .before .loop .inv .3) (c .before .before .put .ensures))
 
 returns : tie.Need-returns Inv-loop μ-loop
 unfolding marksOf
@@ -44,11 +43,11 @@ marks-spec =
     Inv-loop
     μ-loop
     loop-holds
-    (λ c. search needs)
-    (λ c κs. search needs)
-    (λ c κs. search needs)
-    (λ c. search needs)
-    (λ c. search needs)
+    (λ c. omega arith)
+    (λ c κs. tt)
+    (λ c κs. omega arith)
+    (λ c. omega arith)
+    (λ c. omega arith)
     loop-again
-    (λ c. search needs)
+    (λ c. c .before .loop .inv .2)
     returns)

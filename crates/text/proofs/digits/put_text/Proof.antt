@@ -1,5 +1,4 @@
 -- `text::digits::put_text` meets its contract. Assumes nothing.
-use borrow.Author.Needs.{needs}
 use native.Mathlib.Omega.{arith}
 use Prim.Native.Nat.{_+_, _-_, _≤_}
 use mathlib.Core.Path.{_≡_, refl}
@@ -17,14 +16,14 @@ abbrev μ-loop : tie.MeasureT-loop
 μ-loop out₀ at text p₀ j₀ out p j = length text - j
 
 loop-holds : tie.Need-loop-holds Inv-loop μ-loop
-loop-holds c = (search needs, search needs, refl, wrote-none _ _ (omega arith))
+loop-holds c = (omega arith, omega arith, refl, wrote-none _ _ (omega arith))
 
 loop-again : tie.Need-loop-again Inv-loop μ-loop
 loop-again c =
     let p = c .before .before in
     let l = p .before .before .before .before in
     let long = wrote-long (p .put .ensures) in
-    (search needs, omega (arith, p .put .ensures .next), omega (arith, long), text-more _ _ _ _ _ _ _ (l .loop .j) (p .before .before .before .loop-test .taken) (l .loop .inv .3) (p .put .ensures))
+    (omega arith, omega (arith, p .put .ensures .next), omega (arith, long), text-more _ _ _ _ _ _ _ (l .loop .j) (p .before .before .before .loop-test .taken) (l .loop .inv .3) (p .put .ensures))
 
 returns : tie.Need-returns Inv-loop μ-loop
 returns c = text-done _ (c .before .loop .j) (c .loop-test .left) (c .before .loop .inv .3)
@@ -36,10 +35,10 @@ put-text-spec =
     Inv-loop
     μ-loop
     loop-holds
-    (λ c. search needs)
-    (λ c κs. search needs)
-    (λ c. search needs)
-    (λ c. search needs)
+    (λ c. omega arith)
+    (λ c κs. omega arith)
+    (λ c. omega arith)
+    (λ c. omega arith)
     loop-again
-    (λ c. search needs)
+    (λ c. c .before .loop .inv .2)
     returns)

@@ -3,7 +3,6 @@ use native.Mathlib.Omega.{arith}
 use Prim.Native.Nat.{ℕ, _+_, _-_, _*_}
 use mathlib.Core.Path.{_≡_, ap}
 use lib.ListN.{take, drop}
-use borrow.Author.Needs.{needs}
 use Rattle.text.specs.Lines.{pointLine, floatsLine, ascii}
 use Rattle.text.proofs.Writing.{wrote-as}
 use Rattle.text.proofs.lines.point_line.Statement.{statement}
@@ -20,13 +19,13 @@ pub point-line-spec : {M : Type 1} → statement M
 point-line-spec =
     tie.close
     (tie.spec
-    (λ c. search needs)
-    (λ c. search needs)
-    (λ c. search needs)
-    (λ c. search needs)
-    (λ c. search needs)
-    (λ c. search needs)
-    (λ c. search needs)
-    (λ c κs. search needs)
-    (λ c. search needs)
+    (λ c. omega arith)
+    (λ c. omega arith)
+    (λ c. omega arith)
+    (λ c. omega arith)
+    (λ c. omega arith)
+    (λ c. omega arith)
+    (λ c. omega arith)
+    (λ c κs. omega arith)
+    (λ c. c .before .out .given)
     returns)

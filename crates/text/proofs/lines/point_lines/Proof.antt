@@ -1,5 +1,4 @@
 -- `text::lines::point_lines` meets its contract. Assumes nothing.
-use borrow.Author.Needs.{needs}
 use native.Mathlib.Omega.{arith}
 use Prim.Native.Nat.{_+_, _*_, _-_, _/_, _≤_}
 use mathlib.Core.Path.{_≡_, refl}
@@ -20,12 +19,12 @@ abbrev μ-loop : tie.MeasureT-loop
 
 loop-holds : tie.Need-loop-holds Inv-loop μ-loop
 unfolding turns
-loop-holds c = (search needs, search needs, refl, wrote-none _ _ (omega arith))
+loop-holds c = (omega arith, omega arith, refl, wrote-none _ _ (omega arith))
 
 loop-again : tie.Need-loop-again Inv-loop μ-loop
 loop-again c =
     let long = wrote-long (c .before .before .point-line .ensures .0) in
-    (search needs, omega arith, omega (arith, long), piece-more (pointLine (c .before .before .before .before .before .before .before .before .args .residuals .now)) (c .before .before .before .before .before .loop .i) refl (c .before .before .before .before .before .loop .inv .3) (c .before .before .point-line .ensures .0))
+    (omega arith, omega arith, omega (arith, long), piece-more (pointLine (c .before .before .before .before .before .before .before .before .args .residuals .now)) (c .before .before .before .before .before .loop .i) refl (c .before .before .before .before .before .loop .inv .3) (c .before .before .point-line .ensures .0))
 
 returns : tie.Need-returns Inv-loop μ-loop
 unfolding pointLines
@@ -39,8 +38,8 @@ point-lines-spec =
     μ-loop
     loop-holds
     (λ c κs. omega arith)
-    (λ c. search needs)
-    (λ c. search needs)
+    (λ c. omega arith)
+    (λ c. omega arith)
     loop-again
-    (λ c. search needs)
+    (λ c. c .before .loop .inv .2)
     returns)

@@ -1,6 +1,6 @@
 -- `text::lines::read_line` meets its contract. Assumes nothing.
+use mathlib.Core.Path.{_∙_}
 use native.Mathlib.Omega.{arith}
-use borrow.Author.Needs.{needs}
 use Rattle.text.proofs.Writing.{then}
 use Rattle.text.specs.Lines.{readLine}
 use Rattle.text.proofs.lines.read_line.Statement.{statement}
@@ -14,12 +14,12 @@ pub read-line-spec : {M : Type 1} → statement M
 read-line-spec =
     tie.close
     (tie.spec
-    (λ c. search needs)
-    (λ c κs. search needs)
-    (λ c. search needs)
-    (λ c κs. search needs)
-    (λ c. search needs)
-    (λ c. search needs)
-    (λ c κs. search needs)
-    (λ c. search needs)
+    (λ c. omega arith)
+    (λ c κs. omega arith)
+    (λ c. omega arith)
+    (λ c κs. omega arith)
+    (λ c. omega arith)
+    (λ c. omega arith)
+    (λ c κs. omega arith)
+    (λ c. c .before .out3 .given ∙ c .before .before .before .before .before .before .before .out2 .given ∙ c .before .before .before .before .before .before .before .before .before .before .before .before .out .given)
     returns)

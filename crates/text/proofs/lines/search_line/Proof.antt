@@ -1,6 +1,5 @@
 -- `text::lines::search_line` meets its contract. Assumes nothing.
 use native.Mathlib.Omega.{arith}
-use borrow.Author.Needs.{needs}
 use Rattle.text.specs.Lines.{searchLine}
 use Rattle.text.proofs.lines.search_line.Statement.{statement}
 use Rattle.text.proofs.lines.search_line.Tie as tie
@@ -13,8 +12,8 @@ pub search-line-spec : {M : Type 1} → statement M
 search-line-spec =
     tie.close
     (tie.spec
-    (λ c. search needs)
-    (λ c. search needs)
-    (λ c κs. search needs)
-    (λ c. search needs)
+    (λ c. omega arith)
+    (λ c. omega arith)
+    (λ c κs. omega arith)
+    (λ c. c .before .out .given)
     returns)
