@@ -7,7 +7,7 @@ use borrow.Author.Tests.{le-leb}
 use Rattle.laws.proofs.Choices.{if-true}
 use Rattle.cell.specs.declared.Cell.{Cell}
 use Rattle.cell.specs.declared.Limits.{Limits}
-use Rattle.cell.specs.Polytope.{rowsOf, boundsOf, spreadOf}
+use Rattle.polytope.specs.Polytope.{rowsOf, boundsOf, spreadOf}
 use Rattle.slice.specs.declared.KRange.{KRange}
 use Rattle.slice.specs.declared.SviSlice.{SviSlice}
 use Rattle.slice.specs.Slice.{evalRaw}

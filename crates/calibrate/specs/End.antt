@@ -15,7 +15,7 @@ use Rattle.slice.specs.declared.Evaluated.{Evaluated}
 use Rattle.slice.specs.declared.Evaluated.the-variants as evaluated
 use Rattle.slice.specs.Slice.{numberOf, evalRaw, leeOf, leeBound}
 use Rattle.cell.specs.declared.Cell.{Cell}
-use Rattle.cell.specs.Polytope.{rowsOf, boundsOf, spreadOf, dotOf}
+use Rattle.polytope.specs.Polytope.{rowsOf, boundsOf, spreadOf, dotOf}
 use Rattle.search.specs.declared.Counts.{Counts}
 use Rattle.search.specs.Search as search
 use Rattle.calibrate.specs.declared.FitConfig.{FitConfig}

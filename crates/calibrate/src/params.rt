@@ -3,7 +3,6 @@ ghost use mathlib.Core.Path.{_≡_};
 ghost use Rattle.calibrate.specs.End.{activeOf, marksAt, rhoOf, slopeOf, levelOf, sliceOf};
 use crate::FitConfig;
 use cell::Cell;
-use cell::polytope;
 use slice::KRange;
 use slice::SviSlice;
 

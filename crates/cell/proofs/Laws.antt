@@ -1,31 +1,37 @@
 -- Laws of the definitions that the functions' proofs and the callers' cite. Assumes nothing.
 use mathlib.Core.Path.{_≡_, refl, sym, ap, ap₂, subst, fun-ext, _∙_}
-use mathlib.Core.Bool.{Bool, true, false, cond}
-use mathlib.Core.List.{List}
-use Prim.Native.Nat.{ℕ, _+_, _-_, _<_, _≤_}
+use mathlib.Core.Bool.{Bool, true, false, not, _&&_, _||_, cond}
+use mathlib.Core.List.{List, []}
+use Prim.Native.Nat.{ℕ, zero, suc, _+_, _-_, _<_, _≤_}
 use native.Mathlib.Omega.{arith}
 use lib.ListN.{length}
-use lib.Ieee.{Float, nan}
+use lib.Dec.{leb}
+use lib.Ieee.{Float, nan, lt}
 use borrow.Author.Tests.{le-leb, leb-true, eqb-true}
-use Rattle.laws.specs.Floats.{_+f_, _*f_, at, finite}
+use Rattle.laws.specs.Loop.{turns}
+use Rattle.laws.specs.Choice.{unless}
+use Rattle.laws.specs.Floats.{_+f_, _*f_, at, finite, positive}
 use Rattle.laws.proofs.Choices.{if-true, cond-ind, both}
 use Rattle.laws.proofs.Loops.{for-keeps, for-same}
+use Rattle.solver.specs.Solve.{scaleOf, scaledOf, solveOf}
 use Rattle.solver.specs.declared.Solved.{Solved}
 use Rattle.cell.specs.declared.Face.{Face}
 use Rattle.cell.specs.declared.Model.{Model}
 use Rattle.cell.specs.declared.Limits.{Limits}
 use Rattle.cell.specs.declared.Normal.{Normal}
+use Rattle.cell.specs.declared.Point.{Point}
 use Rattle.cell.specs.declared.Tried.{Tried}
 use Rattle.cell.specs.declared.Cell.{Cell}
-use Rattle.cell.specs.Faces.{faceAt}
+use Rattle.cell.specs.Faces.{faceOf, faceAt}
 use Rattle.cell.specs.Next.{Good, Ordered, nextOf}
-use Rattle.cell.specs.Polytope.{rowsOf, boundsOf, spreadOf, feasibleOf}
+use Rattle.polytope.specs.Polytope.{rowsOf, boundsOf, spreadOf, feasibleOf}
 use Rattle.laws.specs.Room.{filledOn}
 use Rattle.laws.proofs.Rooms.{filled-at, filled-length}
 use Rattle.roots.specs.Hypot.{withOneOf}
-use Rattle.cell.specs.Least.{yOf, hOf, addedTo, normalOf, baseOf, rightOf, restOf, objectiveOf}
-use Rattle.cell.specs.Cell.{Problem, problem, solutionOf, widened, noTry, valuedOf, metOf, triedOf, tryOf, wins, pickOf, bestOf, chosenOf, problemOf, posedOf, fitModel, cellOf, inRange, noCell, innerOf}
+use Rattle.cell.specs.Least.{yOf, hOf, addedTo, normalOf, restOf, objectiveOf}
+use Rattle.cell.specs.Cell.{Problem, kktOf, solutionOf, widened, noTry, valuedOf, metOf, triedOf, tryOf, wins, pickOf, bestOf, chosenOf, problemOf, posedOf, fitModel, cellOf, inRange, noCell, innerOf}
 use Rattle.cell.specs.Lent.{ysOn, hsOn, innerOn}
+use Rattle.cell.specs.Shared.{doubledOf, blockOf, problemIn, emptyScale, Scaled, answerOf, Meets}
 
 -- ---- the rows of the observations, computed once
 
@@ -50,11 +56,80 @@ module _ (y z h g : ℕ → Float) (ws ts : List Float) (ys : (i : ℕ) → i < 
 
 -- the problem as the code puts it together
 pub posed-is :
-    (k : Model) (m n : Normal) (sigma : Float) (l : Limits) (base right g h : List Float) (s : Float)
-    → m ≡ n → base ≡ baseOf m → right ≡ rightOf m → g ≡ rowsOf → h ≡ boundsOf sigma (l .«a_min») (l .«a_max») → s ≡ spreadOf h
-    → problem (k .u) (k .n) base right g h (l .«pivot_tolerance») (l .«feasibility_tolerance» *f s) ≡ problemOf k n sigma l
+    (m n : Normal) (sigma : Float) (l : Limits) (b g h : List Float) (s : Float)
+    → m ≡ n → b ≡ doubledOf m → g ≡ rowsOf → h ≡ boundsOf sigma (l .«a_min») (l .«a_max») → s ≡ spreadOf h
+    → problemIn b g h (l .«pivot_tolerance») (l .«feasibility_tolerance» *f s) ≡ problemOf fitModel n sigma l
 unfolding problemOf
-posed-is k m n sigma l base right g h s e eb er eg eh es = cc
+posed-is m n sigma l b g h s e eb eg eh es =
+    let tol = l .«pivot_tolerance» in
+    let slack = l .«feasibility_tolerance» in
+    ap (λ (b : List Float). problemIn b g h tol (slack *f s)) (eb ∙ ap doubledOf e)
+    ∙ ap (λ (g : List Float). problemIn (doubledOf n) g h tol (slack *f s)) eg
+    ∙ ap (λ (s : Float). problemIn (doubledOf n) rowsOf h tol (slack *f s)) es
+    ∙ ap (λ (h : List Float). problemIn (doubledOf n) rowsOf h tol (slack *f spreadOf h)) eh
+
+-- ---- a face's point, and what comes of it
+
+-- where the scale is positive, a face's solution is the answer under the limit that it sets; else there is none
+module _ (o : List Float → Float) (b g h : List Float) (pivot scale slack : Float) (f : Face) (l : f .size ≤ 3) (e : scaleOf (3 + f .size) (kktOf (blockOf b) g 3 f) ≡ scale) where
+  small : leb (3 + f .size) 6 ≡ true
+  small = le-leb (3 + f .size) 6 (omega arith)
+
+  try-under : positive scale ≡ true → tryOf o (problemIn b g h pivot slack) f ≡ triedOf o (problemIn b g h (pivot *f scale) slack) f (answerOf b g h (pivot *f scale) f)
+  unfolding tryOf triedOf metOf solutionOf solveOf scaledOf
+  try-under p = rw (small, e, p) refl
+
+  -- r is the candidate under that limit
+  pub try-at :
+      positive scale ≡ true → (r : Point) → triedOf o (problemIn b g h (pivot *f scale) slack) f (answerOf b g h (pivot *f scale) f) ≡ unless (r .ok) noTry (valuedOf f (r .x) (o (r .x)))
+      → unless (r .ok) noTry (valuedOf f (r .x) (o (r .x))) ≡ tryOf o (problemIn b g h pivot slack) f
+  try-at p r k = sym k ∙ sym (try-under p)
+
+  pub try-none : positive scale ≡ false → tryOf o (problemIn b g h pivot slack) f ≡ noTry
+  unfolding tryOf triedOf metOf solutionOf solveOf scaledOf
+  try-none p = rw (small, e, p) refl
+
+-- the empty face has no more than the block, and what every other face has it has as well where it is known by other names
+pub scale-empty : (b g : List Float) → scaleOf 3 (kktOf (blockOf b) g 3 (faceOf [])) ≡ emptyScale b
+unfolding kktOf turns
+scale-empty b g = refl
+
+pub scale-same : (b g : List Float) (f : Face) (scale : Float) (t : ℕ) → f ≡ faceAt 3 7 t → g ≡ rowsOf → Scaled b scale → 0 < t → t < 64 → scaleOf (3 + f .size) (kktOf (blockOf b) g 3 f) ≡ scale
+scale-same b g f scale t e d h l m = ap₂ (λ (f : Face) (g : List Float). scaleOf (3 + f .size) (kktOf (blockOf b) g 3 f)) e d ∙ h t l m
+
+-- a face that is solved and feasible is valued at its point; else there is nothing
+module _ (o : List Float → Float) (b g h : List Float) (limit slack : Float) (f : Face) (r : Point) (s : Solved) (M : Meets r s) where
+  pub met : r .ok ≡ true → (t : Bool) → feasibleOf g h 7 slack (r .x) ≡ t → triedOf o (problemIn b g h limit slack) f s ≡ unless t noTry (valuedOf f (r .x) (o (r .x)))
+  unfolding triedOf metOf
+  met k t w =
+      let x = M .x k in
+      rw (sym (M .ok) ∙ k, sym x, w) refl
+
+  pub unmet : r .ok ≡ false → triedOf o (problemIn b g h limit slack) f s ≡ noTry
+  unfolding triedOf
+  unmet k = rw (sym (M .ok) ∙ k) refl
+
+-- the code's one test is the definition's two
+pub judge-is : (f : Face) (x : List Float) (v : Float) (b : Tried) → cond (finite v && (not (b .some) || lt v (b .objective))) (record { some = true; objective = v; x = x; face = f }) b ≡ pickOf (valuedOf f x v) b
+unfolding pickOf valuedOf
+judge-is f x v b = go (finite v)
+  where
+    go : (t : Bool) → cond (t && (not (b .some) || lt v (b .objective))) (record { some = true; objective = v; x = x; face = f }) b
+        ≡ cond (cond t (record { some = true; objective = v; x = x; face = f }) noTry .some && (not (b .some) || lt (cond t (record { some = true; objective = v; x = x; face = f }) noTry .objective) (b .objective))) (cond t (record { some = true; objective = v; x = x; face = f }) noTry) b
+    go true = refl
+    go false = refl
+
+-- nothing is better than nothing
+pub valued-first : (f : Face) (x : List Float) (v : Float) → pickOf (valuedOf f x v) noTry ≡ valuedOf f x v
+unfolding pickOf valuedOf
+valued-first f x v = go (finite v)
+  where
+    some : Tried
+    some = record { some = true; objective = v; x = x; face = f }
+
+    go : (t : Bool) → pickOf (cond t some noTry) noTry ≡ cond t some noTry
+    go true = refl
+    go false = refl
 
 -- ---- lent room
 
@@ -147,6 +222,16 @@ best-good o p count t O e =
 pub passed-over : (t b : Tried) → t .some ≡ false → b ≡ pickOf t b
 unfolding pickOf
 passed-over t b e = rw e
+
+-- where no face qualifies the best is nothing
+pub best-none : (o : List Float → Float) (p : Problem) (count : ℕ) → ((t : ℕ) → t < count → tryOf o p (faceAt (p .u) (p .n) t) .some ≡ false) → noTry ≡ bestOf o p count
+unfolding bestOf
+best-none o p count none = for-keeps (λ (b : Tried). noTry ≡ b) _ count (λ t l b q. q ∙ passed-over _ b (none t l)) noTry refl
+
+-- what holds of 0 and from 1 on holds of all
+pub zero-or-more : (P : ℕ → Type 0) → P 0 → ((t : ℕ) → 0 < t → P t) → (t : ℕ) → P t
+zero-or-more P z s zero = z
+zero-or-more P z s (suc t) = s (suc t) (omega arith)
 
 -- the answer for lists in range is that of the problem posed
 pub posed-on : (ks ws ts : List Float) (l : Limits) (m sigma : Float) (ys hs : List Float) {r : Cell} → inRange ks ws ts ≡ true

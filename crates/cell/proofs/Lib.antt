@@ -2,3 +2,5 @@ pub mod Laws
 pub mod Orders
 pub mod Cells
 pub mod Marked
+pub mod Systems
+pub mod Scaling

@@ -18,7 +18,7 @@ use Rattle.cell.specs.declared.Normal.{Normal}
 use Rattle.cell.specs.declared.Tried.{Tried}
 use Rattle.cell.specs.declared.Cell.{Cell}
 use Rattle.cell.specs.Faces.{memberOf, faceAt, marksOf}
-use Rattle.cell.specs.Polytope.{rowsOf, boundsOf, spreadOf, feasibleOf}
+use Rattle.polytope.specs.Polytope.{rowsOf, boundsOf, spreadOf, feasibleOf}
 use Rattle.cell.specs.Least.{yOf, hOf, normalOf, baseOf, rightOf, objectiveOf}
 
 -- the problem of a cell: u unknowns; n constraints g x <= h; the KKT system of the empty face; the solver's tolerance; the slack

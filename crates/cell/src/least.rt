@@ -1,10 +1,11 @@
 // The weighted least squares at (m, sigma): the rows (1, y, h) of the observations, the normal equations, the objective.
 ghost use mathlib.Core.Path.{_≡_};
-ghost use Prim.Native.Nat.{_≤_};
+ghost use Prim.Native.Nat.{_≤_, _<_};
 ghost use lib.ListN.{length};
 ghost use Rattle.laws.specs.Floats.{at};
 ghost use Rattle.laws.specs.Room.{filledOn};
-ghost use Rattle.cell.specs.Least.{yOf, lineOf, addedTo, normalOf, baseOf, rightOf, objectiveOf};
+ghost use Rattle.cell.specs.Least.{yOf, lineOf, addedTo, normalOf, objectiveOf};
+ghost use Rattle.cell.specs.Shared.{doubledOf, lineAt, linesOf};
 use crate::Line;
 use crate::Normal;
 
@@ -43,54 +44,60 @@ pub(crate) fn normal_sum(ys: &[f64; 256], hs: &[f64; 256], ws: &[f64], ts: &[f64
     requires { ⌜ (length (now ws) ≤ 256) × (length (now ts) ≡ length (now ws)) ⌝ }
     ensures { λ r. ⌜ r ≡ normalOf (at (now (ys .entry))) (at (now (hs .entry))) (now (ws .entry)) (now (ts .entry)) ⌝ }
 {
-    let mut n = Normal {
-        a: Line {
-            lin: 0.0,
-            q0: 0.0,
-            q1: 0.0,
-            q2: 0.0,
-        },
-        d: Line {
-            lin: 0.0,
-            q0: 0.0,
-            q1: 0.0,
-            q2: 0.0,
-        },
-        c: Line {
-            lin: 0.0,
-            q0: 0.0,
-            q1: 0.0,
-            q2: 0.0,
-        },
+    let z = Line {
+        lin: 0.0,
+        q0: 0.0,
+        q1: 0.0,
+        q2: 0.0,
     };
+    let mut n = Normal { a: z, d: z, c: z };
     for i in 0..ws.len() {
         n = added(n, ts[i], ys[i], hs[i], ws[i]);
     }
     n
 }
 
-// Twice q, in the corner of the matrix of the empty face.
-pub(crate) fn base_of(n: Normal) -> [f64; 36]
-    ensures { λ r. ⌜ r ≡ baseOf n ⌝ }
+// Twice the normal equations: the block of the systems of all faces.
+pub(crate) fn doubled(n: Normal) -> [f64; 12]
+    ensures { λ r. ⌜ r ≡ doubledOf n ⌝ }
 {
-    let mut m = [0.0; 36];
-    m[0] = 2.0 * n.a.q0;
-    m[1] = 2.0 * n.a.q1;
-    m[2] = 2.0 * n.a.q2;
-    m[6] = 2.0 * n.d.q0;
-    m[7] = 2.0 * n.d.q1;
-    m[8] = 2.0 * n.d.q2;
-    m[12] = 2.0 * n.c.q0;
-    m[13] = 2.0 * n.c.q1;
-    m[14] = 2.0 * n.c.q2;
-    m
+    [
+        2.0 * n.a.q0,
+        2.0 * n.a.q1,
+        2.0 * n.a.q2,
+        2.0 * n.a.lin,
+        2.0 * n.d.q0,
+        2.0 * n.d.q1,
+        2.0 * n.d.q2,
+        2.0 * n.d.lin,
+        2.0 * n.c.q0,
+        2.0 * n.c.q1,
+        2.0 * n.c.q2,
+        2.0 * n.c.lin,
+    ]
 }
 
-// Twice lin.
-pub(crate) fn right_of(n: Normal) -> [f64; 6]
-    ensures { λ r. ⌜ r ≡ rightOf n ⌝ }
+// Line of the block from place o on.
+fn line_at(b: &[f64; 12], o: usize) -> Line
+    requires { ⌜ o < 9 ⌝ }
+    ensures { λ r. ⌜ r ≡ lineAt o (now (b .entry)) ⌝ }
 {
-    [2.0 * n.a.lin, 2.0 * n.d.lin, 2.0 * n.c.lin, 0.0, 0.0, 0.0]
+    Line {
+        lin: b[o + 3],
+        q0: b[o],
+        q1: b[o + 1],
+        q2: b[o + 2],
+    }
+}
+
+// The block by its lines.
+pub(crate) fn lines(b: &[f64; 12]) -> Normal
+    ensures { λ r. ⌜ r ≡ linesOf (now (b .entry)) ⌝ }
+{
+    let a = line_at(b, 0);
+    let d = line_at(b, 4);
+    let c = line_at(b, 8);
+    Normal { a, d, c }
 }
 
 // The weighted sum of squares at x, summed directly.

@@ -1,7 +1,7 @@
 // One cell (m, sigma) of the search: the least squares over the polytope by trying its faces, `inner` of calibrate.rs.
 mod least;
 mod order;
-pub mod polytope;
+mod scales;
 mod trial;
 
 ghost use mathlib.Core.Path.{_≡_};
@@ -11,9 +11,11 @@ ghost use lib.ListN.{length};
 ghost use Rattle.laws.specs.Choice.{unless};
 ghost use Rattle.laws.specs.Floats.{at};
 ghost use Rattle.cell.specs.Faces.{faceAt};
-ghost use Rattle.cell.specs.Next.{Good, Ordered};
+ghost use Rattle.polytope.specs.Polytope.{rowsOf};
+ghost use Rattle.cell.specs.Next.{Good};
 ghost use Rattle.cell.specs.Least.{objectiveAt};
-ghost use Rattle.cell.specs.Cell.{problem, tryOf, bestOf, cellFrom, chosenOf, posedOf, inRange, innerOf};
+ghost use Rattle.cell.specs.Cell.{tryOf, bestOf, cellFrom, chosenOf, fitModel, posedOf, inRange, innerOf};
+ghost use Rattle.cell.specs.Shared.{problemIn, emptyScale, otherScale, Scaled};
 ghost use Rattle.cell.specs.Lent.{ysOn, hsOn, innerOn};
 
 // A face: how many of its constraints are held, and which, rising; what is not used is 0.
@@ -24,7 +26,7 @@ pub struct Face {
     pub c: usize,
 }
 
-// A model of the fit: its unknowns, its constraints, and its faces.
+// A model of a fit, as the definitions speak of it: its unknowns, its constraints, and its faces. The code is that of the one with 3, 7 and 64.
 pub struct Model {
     pub u: usize,
     pub n: usize,
@@ -55,6 +57,12 @@ pub struct Normal {
     pub c: Line,
 }
 
+// The point of a face, where its system has one.
+pub struct Point {
+    pub x: [f64; 3],
+    pub ok: bool,
+}
+
 // A face that was tried: whether it qualifies, its objective, its point and itself.
 pub struct Tried {
     pub some: bool,
@@ -73,49 +81,76 @@ pub struct Cell {
     pub faces: usize,
 }
 
-// The best of all faces, where the empty one does not qualify. One that does not qualify leaves the best where it stands.
-fn best(
-    base: &[f64; 36],
-    right: &[f64; 6],
+// The empty face.
+fn empty(
+    b: &[f64; 12],
     g: &[f64; 21],
     h: &[f64; 7],
     ys: &[f64; 256],
     hs: &[f64; 256],
     ws: &[f64],
     ts: &[f64],
-    k: Model,
     pivot: f64,
+    scale: f64,
     slack: f64,
 ) -> Tried
-    requires { ⌜ Ordered (k .u) (k .n) (k .faces) × (length (now ws) ≤ 256) × (length (now ts) ≡ length (now ws)) ⌝ }
-    requires { ⌜ tryOf (objectiveAt (now ys) (now hs) (now ws) (now ts)) (problem (k .u) (k .n) (now base) (now right) (now g) (now h) pivot slack) (faceAt (k .u) (k .n) 0) .some ≡ false ⌝ }
-    ensures { λ r. ⌜ r ≡ bestOf (objectiveAt (now (ys .entry)) (now (hs .entry)) (now (ws .entry)) (now (ts .entry))) (problem (k .u) (k .n) (now (base .entry)) (now (right .entry)) (now (g .entry)) (now (h .entry)) pivot slack) (k .faces) ⌝ }
+    requires { ⌜ (length (now ws) ≤ 256) × (length (now ts) ≡ length (now ws)) × (scale ≡ emptyScale (now b)) × (now g ≡ rowsOf) ⌝ }
+    ensures { λ r. ⌜ r ≡ tryOf (objectiveAt (now (ys .entry)) (now (hs .entry)) (now (ws .entry)) (now (ts .entry))) (problemIn (now (b .entry)) (now (g .entry)) (now (h .entry)) pivot slack) (faceAt 3 7 0) ⌝ }
 {
-    let mut b = Tried {
-        some: false,
-        objective: 0.0,
-        x: [0.0; 3],
-        face: Face {
-            size: 0,
-            a: 0,
-            b: 0,
-            c: 0,
-        },
+    if !scales::positive(scale) {
+        return trial::no_try();
+    }
+    let f = Face {
+        size: 0,
+        a: 0,
+        b: 0,
+        c: 0,
     };
+    let e = trial::candidate(b, g, h, pivot * scale, slack, f);
+    if !e.ok {
+        return trial::no_try();
+    }
+    let v = least::objective(ys, hs, ws, ts, &e.x);
+    trial::judged(trial::no_try(), f, e.x, v)
+}
+
+// The best of all faces, where the empty one does not qualify. One that is no candidate leaves the best where it stands.
+fn best(
+    b: &[f64; 12],
+    g: &[f64; 21],
+    h: &[f64; 7],
+    ys: &[f64; 256],
+    hs: &[f64; 256],
+    ws: &[f64],
+    ts: &[f64],
+    pivot: f64,
+    scale: f64,
+    slack: f64,
+) -> Tried
+    requires { ⌜ (length (now ws) ≤ 256) × (length (now ts) ≡ length (now ws)) × Scaled (now b) scale × (now g ≡ rowsOf) ⌝ }
+    requires { ⌜ tryOf (objectiveAt (now ys) (now hs) (now ws) (now ts)) (problemIn (now b) (now g) (now h) pivot slack) (faceAt 3 7 0) .some ≡ false ⌝ }
+    ensures { λ r. ⌜ r ≡ bestOf (objectiveAt (now (ys .entry)) (now (hs .entry)) (now (ws .entry)) (now (ts .entry))) (problemIn (now (b .entry)) (now (g .entry)) (now (h .entry)) pivot slack) 64 ⌝ }
+{
+    let mut best = trial::no_try();
+    if !scales::positive(scale) {
+        return best;
+    }
+    let limit = pivot * scale;
     let mut f = Face {
         size: 0,
         a: 0,
         b: 0,
         c: 0,
     };
-    for t in 1..k.faces {
-        f = order::next(f, k.n);
-        let e = trial::try_face(base, right, g, h, ys, hs, ws, ts, k, pivot, slack, f);
-        if e.some {
-            b = trial::pick_try(e, b);
+    for t in 1..64usize {
+        f = order::next(f, 7);
+        let e = trial::candidate(b, g, h, limit, slack, f);
+        if e.ok {
+            let v = least::objective(ys, hs, ws, ts, &e.x);
+            best = trial::judged(best, f, e.x, v);
         }
     }
-    b
+    best
 }
 
 fn cell_from(t: Tried, faces: usize) -> Cell
@@ -135,72 +170,55 @@ fn cell_from(t: Tried, faces: usize) -> Cell
 
 // The empty face where it qualifies, else the best of all.
 fn chosen(
-    base: &[f64; 36],
-    right: &[f64; 6],
+    b: &[f64; 12],
     g: &[f64; 21],
     h: &[f64; 7],
     ys: &[f64; 256],
     hs: &[f64; 256],
     ws: &[f64],
     ts: &[f64],
-    k: Model,
     pivot: f64,
+    scale: f64,
     slack: f64,
 ) -> Cell
-    requires { ⌜ Ordered (k .u) (k .n) (k .faces) × (length (now ws) ≤ 256) × (length (now ts) ≡ length (now ws)) ⌝ }
-    ensures { λ r. ⌜ r ≡ chosenOf (objectiveAt (now (ys .entry)) (now (hs .entry)) (now (ws .entry)) (now (ts .entry))) (problem (k .u) (k .n) (now (base .entry)) (now (right .entry)) (now (g .entry)) (now (h .entry)) pivot slack) (k .faces) ⌝ }
+    requires { ⌜ (length (now ws) ≤ 256) × (length (now ts) ≡ length (now ws)) × (scale ≡ emptyScale (now b)) × Scaled (now b) (otherScale (now b)) × (now g ≡ rowsOf) ⌝ }
+    ensures { λ r. ⌜ r ≡ chosenOf (objectiveAt (now (ys .entry)) (now (hs .entry)) (now (ws .entry)) (now (ts .entry))) (problemIn (now (b .entry)) (now (g .entry)) (now (h .entry)) pivot slack) 64 ⌝ }
 {
-    let f = Face {
-        size: 0,
-        a: 0,
-        b: 0,
-        c: 0,
-    };
-    let e = trial::try_face(base, right, g, h, ys, hs, ws, ts, k, pivot, slack, f);
+    let e = empty(b, g, h, ys, hs, ws, ts, pivot, scale, slack);
     if e.some {
         return cell_from(e, 1);
     }
-    let b = best(base, right, g, h, ys, hs, ws, ts, k, pivot, slack);
-    cell_from(b, k.faces)
-}
-
-// A model, with the rows of the observations at hand.
-fn posed(
-    k: Model,
-    ys: &[f64; 256],
-    hs: &[f64; 256],
-    ws: &[f64],
-    ts: &[f64],
-    l: Limits,
-    sigma: f64,
-) -> Cell
-    requires { ⌜ Ordered (k .u) (k .n) (k .faces) × (length (now ws) ≤ 256) × (length (now ts) ≡ length (now ws)) ⌝ }
-    ensures { λ r. ⌜ r ≡ posedOf k (at (now (ys .entry))) (at (now (hs .entry))) (now (ws .entry)) (now (ts .entry)) l sigma ⌝ }
-{
-    let n = least::normal_sum(ys, hs, ws, ts);
-    let base = least::base_of(n);
-    let right = least::right_of(n);
-    let g = polytope::rows();
-    let h = polytope::bounds(sigma, l.a_min, l.a_max);
-    let slack = l.feasibility_tolerance * polytope::spread(&h);
-    chosen(
-        &base,
-        &right,
-        &g,
-        &h,
+    let t = best(
+        b,
+        g,
+        h,
         ys,
         hs,
         ws,
         ts,
-        k,
-        l.pivot_tolerance,
+        pivot,
+        bits::pick(scale < 1.0, 1.0, scale),
         slack,
-    )
+    );
+    cell_from(t, 64)
 }
 
-// The cell (m, sigma) of a model: y and its hypotenuse with 1 are worked out once for each observation, in lent room.
+// A cell, with the rows of the observations at hand.
+fn posed(ys: &[f64; 256], hs: &[f64; 256], ws: &[f64], ts: &[f64], l: Limits, sigma: f64) -> Cell
+    requires { ⌜ (length (now ws) ≤ 256) × (length (now ts) ≡ length (now ws)) ⌝ }
+    ensures { λ r. ⌜ r ≡ posedOf fitModel (at (now (ys .entry))) (at (now (hs .entry))) (now (ws .entry)) (now (ts .entry)) l sigma ⌝ }
+{
+    let n = least::normal_sum(ys, hs, ws, ts);
+    let b = least::doubled(n);
+    let scale = scales::block_scale(&b);
+    let g = polytope::rows();
+    let h = polytope::bounds(sigma, l.a_min, l.a_max);
+    let slack = l.feasibility_tolerance * polytope::spread(&h);
+    chosen(&b, &g, &h, ys, hs, ws, ts, l.pivot_tolerance, scale, slack)
+}
+
+// The cell (m, sigma): y and its hypotenuse with 1 are worked out once for each observation, in lent room.
 fn cell_at(
-    k: Model,
     ks: &[f64],
     ws: &[f64],
     ts: &[f64],
@@ -210,14 +228,14 @@ fn cell_at(
     ys: &mut [f64; 256],
     hs: &mut [f64; 256],
 ) -> Cell
-    requires { ⌜ Ordered (k .u) (k .n) (k .faces) × (length (now ks) ≤ 256) × (length (now ws) ≡ length (now ks)) × (length (now ts) ≡ length (now ks)) ⌝ }
-    ensures { λ r. ⌜ r ≡ posedOf k (at (ysOn (now (ks .entry)) m sigma (now (ys .entry)))) (at (hsOn (now (ks .entry)) m sigma (now (ys .entry)) (now (hs .entry)))) (now (ws .entry)) (now (ts .entry)) l sigma ⌝ }
+    requires { ⌜ (length (now ks) ≤ 256) × (length (now ws) ≡ length (now ks)) × (length (now ts) ≡ length (now ks)) ⌝ }
+    ensures { λ r. ⌜ r ≡ posedOf fitModel (at (ysOn (now (ks .entry)) m sigma (now (ys .entry)))) (at (hsOn (now (ks .entry)) m sigma (now (ys .entry)) (now (hs .entry)))) (now (ws .entry)) (now (ts .entry)) l sigma ⌝ }
     ensures { λ r. ⌜ now (ys .exit) ≡ ysOn (now (ks .entry)) m sigma (now (ys .entry)) ⌝ }
     ensures { λ r. ⌜ now (hs .exit) ≡ hsOn (now (ks .entry)) m sigma (now (ys .entry)) (now (hs .entry)) ⌝ }
 {
     least::fill_ys(ks, m, sigma, ys);
     roots::lengths::with_one(ys, ks.len(), hs);
-    posed(k, ys, hs, ws, ts, l, sigma)
+    posed(ys, hs, ws, ts, l, sigma)
 }
 
 // The cell of the fit, in lent room, so that a search need not make it again for each cell. Over 256 observations, or not as many w or weights as k, give no face, none is tried, and the room is left as it was.
@@ -236,21 +254,7 @@ pub fn inner_on(
     ensures { λ r. ⌜ now (hs .exit) ≡ unless (inRange (now (ks .entry)) (now (ws .entry)) (now (ts .entry))) (now (hs .entry)) (hsOn (now (ks .entry)) m sigma (now (ys .entry)) (now (hs .entry))) ⌝ }
 {
     if (ks.len() <= 256) & ((ws.len() == ks.len()) & (ts.len() == ks.len())) {
-        return cell_at(
-            Model {
-                u: 3,
-                n: 7,
-                faces: 64,
-            },
-            ks,
-            ws,
-            ts,
-            l,
-            m,
-            sigma,
-            ys,
-            hs,
-        );
+        return cell_at(ks, ws, ts, l, m, sigma, ys, hs);
     }
     Cell {
         some: false,

@@ -7,6 +7,7 @@ pub mod SettledPoint
 pub mod SettledSurface
 pub mod SettledDiagnostics
 pub mod SettledSolver
+pub mod SettledPolytope
 pub mod SettledCell
 pub mod SettledWeights
 pub mod SettledSearch

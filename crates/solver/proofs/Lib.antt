@@ -1,2 +1,9 @@
+pub mod Backed
+pub mod Eliminated
+pub mod Placed
+pub mod Same
+pub mod Segments
 pub mod Solutions
 pub mod Steps
+pub mod Views
+pub mod Whole

@@ -1,25 +1,30 @@
--- Where the code takes a shorter way than the definition: magnitudes that keep the sign of a -0, the scale by rows, and a row that changes places with itself. Assumes nothing.
+-- Where the code takes a shorter way than the definition: magnitudes that keep the sign of a -0, the scale by rows, a row that changes places with itself, columns left out, and a stop at the first refusal. Assumes nothing.
 use mathlib.Core.Path.{_≡_, refl, sym, ap, ap₂, subst, _∙_}
 use mathlib.Core.Bool.{Bool, true, false, not, _&&_, _||_, cond, Bool·beq}
 use mathlib.Core.List.{List}
-use Prim.Native.Nat.{ℕ, zero, suc, _+_, _-_, _*_}
+use Prim.Native.Nat.{ℕ, zero, suc, _+_, _-_, _*_, _≤_, _<_}
 use native.Mathlib.Nat.{zero-mul, mul-pos, add-zero, zero-add}
 use native.Mathlib.Omega.{arith}
-use lib.Dec.{T, ltb, eqb}
+use lib.Dec.{T, ltb, leb, eqb, ltb→lt}
 use lib.IntN.{ℤ}
 use lib.Seq.{set-getD}
 use lib.ListN.{set}
 use lib.Ieee.{Float, nan, inf, fin, up, down, lt, le, eq, ne, neg, isNan, ofBits}
 use lib.Ieee.Fits.{up-pos}
 use lib.Ieee.Bits.{is-true}
-use borrow.Author.Tests.{ltb-true, ltb-false, le-ltb}
+use borrow.Author.Tests.{ltb-true, ltb-false, le-ltb, le-leb, lt-leb}
 use Rattle.laws.specs.Loop.{turns}
 use Rattle.laws.specs.Floats.{+0, at, absOf, maxOf}
-use Rattle.laws.proofs.Choices.{false-true, cond-test}
+use Rattle.laws.proofs.Choices.{false-true, cond-test, if-true, if-false}
 use Rattle.laws.proofs.Floats.{nan-test, unsigned}
-use Rattle.laws.proofs.Loops.{for-keeps}
+use Rattle.laws.proofs.Loops.{again, halted}
 use Rattle.laws.proofs.Order.{lt-le-trans, lt-or, lt→le}
-use Rattle.solver.specs.Solve.{System, after, entry, ranked, rowScaleOf, exchange, swapRows, swapped}
+use Rattle.solver.specs.Solve.{entry, ranked, rowScaleOf, exchange}
+use Rattle.solver.specs.Rows.{Room, room, pivotIn, swapIn, clearIn, raisedIn, clearedIn, columnIn, fromIn}
+
+cond-same : {A : Type 0} {x : A} (t : Bool) → cond t x x ≡ x
+cond-same true = refl
+cond-same false = refl
 
 or-true : (t : Bool) → (t || true) ≡ true
 or-true true = refl
@@ -117,7 +122,7 @@ module _ (x y a b : Float) (f : a ≡ unsigned x) (g : b ≡ unsigned y) where
 -- ---- the scale, row by row
 
 -- the code's max: the first of the largest
-abbrev larger : Float → Float → Float
+abbrev pub larger : Float → Float → Float
 larger a b = cond (lt a b) b a
 
 -- a number that is not below zero
@@ -137,7 +142,7 @@ below-number (fin s m e) nan h = false-true h
 below-number a (inf s) h = refl
 below-number a (fin s m e) h = refl
 
-abs-above : (x : Float) → lt (absOf x) +0 ≡ false
+pub abs-above : (x : Float) → lt (absOf x) +0 ≡ false
 unfolding lt absOf ofBits
 abs-above nan = refl
 abs-above (inf s) = refl
@@ -157,7 +162,7 @@ or-false : (t : Bool) → (t || false) ≡ t
 or-false true = refl
 or-false false = refl
 
-larger-max : (a b : Float) → isNan a ≡ false → larger a b ≡ maxOf a b
+pub larger-max : (a b : Float) → isNan a ≡ false → larger a b ≡ maxOf a b
 unfolding maxOf
 larger-max a b h = sym (ap (λ (t : Bool). cond (lt a b || t) b a) (nan-test a ∙ h) ∙ ap (λ (t : Bool). cond t b a) (or-false (lt a b)))
 
@@ -179,7 +184,7 @@ pub both-sized : (a b : Float) → Sized a → Sized b → Sized (larger a b)
 both-sized a b s t = larger-sized a b s (t .above)
 
 -- what is at least as large as something is not below what that is not below
-not-lt-trans : (a b c : Float) → isNan b ≡ false → lt a b ≡ false → lt b c ≡ false → lt a c ≡ false
+pub not-lt-trans : (a b c : Float) → isNan b ≡ false → lt a b ≡ false → lt b c ≡ false → lt a c ≡ false
 not-lt-trans a b c n h k = go (lt a c) refl
   where
     go : (t : Bool) → lt a c ≡ t → lt a c ≡ false
@@ -228,9 +233,48 @@ row-from n m i a s = sym (row-turns m i (n - 0) 0 a s)
 exchange-self : (l : List Float) (i : ℕ) → exchange l i i ≡ l
 exchange-self l i = ap (λ (t : List Float). set t i (at l i)) (set-getD l i nan) ∙ set-getD l i nan
 
-rows-self : (m : List Float) (a : ℕ) → swapRows m a a ≡ m
-unfolding swapRows
-rows-self m a = for-keeps (λ (t : List Float). t ≡ m) _ 6 (λ j l t e. exchange-self t (a * 6 + j) ∙ e) m refl
+pub swap-self : (m : List Float) (a b : ℕ) → a ≡ b → m ≡ swapIn a b m
+unfolding swapIn
+swap-self m a b e = halted (λ j t. exchange t (a * 8 + j) (a * 8 + j)) a 7 (λ j. exchange-self m (a * 8 + j)) (ap (λ (b : ℕ). swapIn a b m) e)
 
-pub swapped-self : (s : System) (a b : ℕ) → a ≡ b → s ≡ swapped s a b
-swapped-self s a b e = sym (ap (swapped s a) (sym e) ∙ ap₂ (after (s .ok)) (rows-self (s .m) a) (exchange-self (s .rhs) a))
+-- ---- the elimination from a column on: the column is not the system's, it is refused, or it is cleared and the rest goes on
+
+module _ (n : ℕ) (limit : Float) where
+  -- one column where the system has it
+  abbrev turn : ℕ → Room → Room
+  turn col s = cond (leb 6 (n + col)) (columnIn limit col s) s
+
+  one-column : (k : ℕ) (s : Room) → k < 6 → fromIn (k + 1) n limit (turn k s) ≡ fromIn k n limit s
+  unfolding fromIn
+  one-column k s l = again turn k 6 l refl refl
+
+  pub left-out : (k : ℕ) (m : List Float) {w : Room} → n < 6 - k → w ≡ fromIn (k + 1) n limit (room true m) → w ≡ fromIn k n limit (room true m)
+  left-out k m {w} h e = e ∙ ap (fromIn (k + 1) n limit) (if-false _ (lt-leb 6 (n + k) (omega arith)) refl) ∙ one-column k (room true m) (omega arith)
+
+  module _ (k : ℕ) (m : List Float) {t : List Float} {r : Bool} (l : T (ltb k 6)) (h : 6 - k ≤ n) (e : room r t ≡ raisedIn limit k (pivotIn k m) m) where
+    brought : clearedIn k (room r t) ≡ turn k (room true m)
+    unfolding columnIn
+    brought = if-true _ (le-leb 6 (n + k) (omega arith)) (ap (clearedIn k) e)
+
+    pub stopped : r ≡ false → room false t ≡ fromIn k n limit (room true m)
+    unfolding fromIn columnIn clearedIn
+    stopped f =
+        let s = ap (λ (b : Bool). clearedIn k (room b t)) (sym f) ∙ brought in
+        halted turn (k + 1) 6 (λ j. cond-same (leb 6 (n + j))) (ap (fromIn (k + 1) n limit) s ∙ one-column k (room true m) (ltb→lt k 6 l))
+
+    pub cleared : {u : List Float} {w : Room} → r ≡ true → u ≡ clearIn k t → w ≡ fromIn (k + 1) n limit (room true u) → w ≡ fromIn k n limit (room true m)
+    unfolding clearedIn
+    cleared {u} {w} f g d =
+        let s = ap (room true) g ∙ ap (λ (b : Bool). clearedIn k (room b t)) (sym f) ∙ brought in
+        d ∙ ap (fromIn (k + 1) n limit) s ∙ one-column k (room true m) (ltb→lt k 6 l)
+
+-- the last column: its pivot is in its place, and nothing is below it
+pub last-column : (n : ℕ) (limit : Float) (m : List Float) {small : Bool} → 1 ≤ n → small ≡ le (absOf (at m 45)) limit → room (not small) m ≡ fromIn 5 n limit (room true m)
+unfolding fromIn turns columnIn raisedIn pivotIn clearedIn clearIn
+last-column n limit m {small} h e =
+    let here : 6 ≤ n + 5 = omega arith in
+    if-true _ (le-leb 6 (n + 5) here) (go small ∙ ap (λ (b : Bool). clearedIn 5 (cond b (room false m) (room true (swapIn 5 5 m)))) e)
+  where
+    go : (b : Bool) → room (not b) m ≡ clearedIn 5 (cond b (room false m) (room true (swapIn 5 5 m)))
+    go true = refl
+    go false = ap (room true) (swap-self m 5 5 refl)

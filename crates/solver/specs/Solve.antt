@@ -123,10 +123,3 @@ scaledOf n m rhs tol scale = unless (positive scale) refused (backIf n (eliminat
 -- m x = rhs in n unknowns; a size above 6 is refused, and so is 0, whose scale is no positive one
 unfoldable pub solveOf : ℕ → List Float → List Float → Float → Solved
 solveOf n m rhs tol = unless (leb n 6) refused (scaledOf n m rhs tol (scaleOf n m))
-
--- what a solve in lent arrays leaves there: the eliminated system, or the system itself where the size or the scale refuses it
-unfoldable pub leftBy : ℕ → List Float → List Float → Float → Float → System
-leftBy n m rhs tol scale = unless (positive scale) (standing m rhs) (eliminatedOf n (tol *f scale) (standing m rhs))
-
-unfoldable pub leftOf : ℕ → List Float → List Float → Float → System
-leftOf n m rhs tol = unless (leb n 6) (standing m rhs) (leftBy n m rhs tol (scaleOf n m))

@@ -1,70 +1,90 @@
 -- `cell::best` meets its contract. The face at hand is the one before face t. Assumes nothing.
 use mathlib.Core.Path.{_≡_, refl, sym, ap, _∙_}
+use mathlib.Core.Bool.{false}
 use mathlib.Core.Logic.{⊎-elim}
-use Prim.Native.Nat.{_+_, _-_, _≤_}
+use mathlib.Core.List.{List}
+use Prim.Native.Nat.{ℕ, _+_, _-_, _≤_, _<_}
 use native.Mathlib.Numerals.{add-one-le}
 use native.Mathlib.Omega.{arith}
+use lib.Ieee.{Float}
+use borrow.Author.Tests.{not-true, not-false}
 use borrow.Author.Needs.{needs}
 use Rattle.laws.specs.Loop.{for}
+use Rattle.laws.specs.Floats.{_*f_}
+use Rattle.laws.proofs.Choices.{if-true, if-false}
 use Rattle.laws.proofs.Loops.{again, ended}
+use Rattle.cell.specs.declared.Tried.{Tried}
 use Rattle.cell.specs.Faces.{faceAt}
 use Rattle.cell.specs.Least.{objectiveAt}
-use Rattle.cell.specs.Cell.{problem, tryOf, pickOf, bestOf}
-use Rattle.cell.specs.declared.Tried.{Tried}
-use Rattle.cell.proofs.Laws.{stepped, good-at, good-seven, passed-over, one-more, one-back}
+use Rattle.cell.specs.Cell.{noTry, valuedOf, tryOf, pickOf, bestOf}
+use Rattle.cell.specs.Shared.{problemIn}
+use Rattle.cell.proofs.Laws.{stepped, good-at, passed-over, one-more, one-back, best-none, zero-or-more, scale-same, try-at, try-none}
+use Rattle.cell.proofs.Orders.{fit-order}
 use Rattle.cell.proofs.best.Statement.{statement}
 use Rattle.cell.proofs.best.Tie as tie
 
 abbrev Inv-loop : tie.InvT-loop
-Inv-loop base right g h ys hs ws ts k pivot slack b₀ f₀ t₀ t-end b f t =
-    (1 ≤ t) × (t ≤ k .faces) × (f ≡ faceAt (k .u) (k .n) (t - 1))
-    × (for t (k .faces) (λ t b. pickOf (tryOf (objectiveAt ys hs ws ts) (problem (k .u) (k .n) base right g h pivot slack) (faceAt (k .u) (k .n) t)) b) b
-    ≡ bestOf (objectiveAt ys hs ws ts) (problem (k .u) (k .n) base right g h pivot slack) (k .faces))
+Inv-loop b g h ys hs ws ts pivot scale slack best₀ limit f₀ t₀ best f t =
+    (1 ≤ t) × (t ≤ 64) × (f ≡ faceAt 3 7 (t - 1))
+    × (for t 64 (λ t b'. pickOf (tryOf (objectiveAt ys hs ws ts) (problemIn b g h pivot slack) (faceAt 3 7 t)) b') best
+    ≡ bestOf (objectiveAt ys hs ws ts) (problemIn b g h pivot slack) 64)
 
 abbrev μ-loop : tie.MeasureT-loop
-μ-loop base right g h ys hs ws ts k pivot slack b₀ f₀ t₀ t-end b f t = k .faces - t
+μ-loop b g h ys hs ws ts pivot scale slack best₀ limit f₀ t₀ best f t = 64 - t
+
+returns : tie.Need-returns Inv-loop μ-loop
+returns c =
+    let a = c .before .before .before .before .before .args in
+    let o = objectiveAt (a .ys .now) (a .hs .now) (a .ws .now) (a .ts .now) in
+    let p = problemIn (a .b .now) (a .g .now) (a .h .now) (a .pivot) (a .slack) in
+    let no = sym (c .before .positive .ensures) ∙ not-true _ (c .if1 .taken) in
+    let none : (t : ℕ) → 0 < t → t < 64 → tryOf o p (faceAt 3 7 t) .some ≡ false =
+    λ t l m. ap (λ (t : Tried). t .some) (try-none o (a .b .now) (a .g .now) (a .h .now) (a .pivot) (a .scale) (a .slack) (faceAt 3 7 t) (fit-order .good t m .size)
+    (scale-same (a .b .now) (a .g .now) (faceAt 3 7 t) (a .scale) t refl (c .before .before .before .before .before .pre .0 .3) (c .before .before .before .before .before .pre .0 .2) l m) no)
+    in
+    c .before .before .no-try .ensures ∙ best-none o p 64 (zero-or-more (λ (t : ℕ). t < 64 → tryOf o p (faceAt 3 7 t) .some ≡ false) (λ m. c .before .before .before .before .before .pre .1) none)
 
 loop-holds : tie.Need-loop-holds Inv-loop μ-loop
 unfolding bestOf
-loop-holds c = (one-more 0, c .before .before .pre .0 .0 .many, sym (c .before .before .pre .0 .0 .first), again _ 0 _ (c .before .before .pre .0 .0 .many) (passed-over _ _ (c .before .before .pre .1)) refl)
+loop-holds c = (one-more 0, omega arith, sym (fit-order .first), again _ 0 64 (omega arith) (c .before .before .no-try .ensures ∙ passed-over _ _ (c .before .before .before .before .before .pre .1)) refl)
 
 next-requires : tie.Need-next-requires Inv-loop μ-loop
 next-requires c κs =
     let l = c .before .loop in
-    let P = c .before .before .before .before .pre .0 .0 in
-    let g = good-seven _ (P .unknowns) (P .rows) (good-at P (l .t - 1) (l .f) (omega arith) (l .inv .2)) in
+    let g = good-at fit-order (l .t - 1) (l .f) (omega arith) (l .inv .2) in
     (g .a, g .b, g .c)
 
-try-face-requires : tie.Need-try-face-requires Inv-loop μ-loop
-try-face-requires c κs =
+candidate-requires : tie.Need-candidate-requires Inv-loop μ-loop
+candidate-requires c κs =
     let l = c .before .before .loop in
-    let q = c .before .before .before .before .before .pre .0 in
-    let P = q .0 in
-    let e = stepped P (l .t) (l .f) (c .next .result) (l .inv .0) (c .before .loop-test .taken) (l .inv .2) (c .next .ensures) in
-    (P .unknowns, P .rows, good-at P (l .t) (c .next .result) (c .before .loop-test .taken) e, q .1, q .2)
+    let e = stepped fit-order (l .t) (l .f) (c .next .result) (l .inv .0) (c .before .loop-test .taken) (l .inv .2) (c .next .ensures) in
+    (good-at fit-order (l .t) (c .next .result) (c .before .loop-test .taken) e, c .before .before .before .before .before .before .before .before .pre .0 .3)
 
 loop-again : tie.Need-loop-again Inv-loop μ-loop
 loop-again c =
-    let d = c .before in
-    let n = d .before in
-    let l = n .before .before .loop in
-    let a = n .before .before .before .before .before .args in
-    let P = n .before .before .before .before .before .pre .0 .0 in
+    let l = c .before .before .before .before .loop in
+    let a = c .before .before .before .before .before .before .before .before .before .before .args in
     let o = objectiveAt (a .ys .now) (a .hs .now) (a .ws .now) (a .ts .now) in
-    let p = problem (a .k .u) (a .k .n) (a .base .now) (a .right .now) (a .g .now) (a .h .now) (a .pivot) (a .slack) in
-    let e = stepped P (l .t) (l .f) (n .next .result) (l .inv .0) (n .before .loop-test .taken) (l .inv .2) (n .next .ensures) in
-    let f = e ∙ ap (faceAt (a .k .u) (a .k .n)) (one-back (l .t)) in
+    let p = problemIn (a .b .now) (a .g .now) (a .h .now) (a .pivot) (a .slack) in
+    let e = stepped fit-order (l .t) (l .f) (c .before .before .next .result) (l .inv .0) (c .before .before .before .loop-test .taken) (l .inv .2) (c .before .before .next .ensures) in
+    let f = e ∙ ap (faceAt 3 7) (one-back (l .t)) in
+    let yes = sym (c .before .before .before .before .before .before .positive .ensures) ∙ not-false _ (c .before .before .before .before .before .if1 .left) in
+    let scale = scale-same (a .b .now) (a .g .now) (c .before .before .next .result) (a .scale) (l .t) e (c .before .before .before .before .before .before .before .before .before .before .pre .0 .3) (c .before .before .before .before .before .before .before .before .before .before .pre .0 .2) (l .inv .0) (c .before .before .before .loop-test .taken) in
+    let size = good-at fit-order (l .t) (c .before .before .next .result) (c .before .before .before .loop-test .taken) e .size in
+    let tried = try-at o (a .b .now) (a .g .now) (a .h .now) (a .pivot) (a .scale) (a .slack) (c .before .before .next .result) size scale yes (c .before .candidate .result) (c .before .candidate .ensures o) ∙ ap (tryOf o p) e in
     let on = one-more (l .t) in
-    let under = add-one-le (n .before .loop-test .taken) in
-    let tried = ap (λ (t : Tried). pickOf t (l .b)) (d .try-face .ensures ∙ ap (tryOf o p) e) in
-    let next = again _ _ _ (n .before .loop-test .taken) in
+    let under = add-one-le (c .before .before .before .loop-test .taken) in
+    let next = again _ _ _ (c .before .before .before .loop-test .taken) in
     ⊎-elim
-    (λ w. (on, under, f, next (w .2 ∙ w .1 .ensures ∙ tried) (l .inv .3)))
-    (λ w. (on, under, f, next (w .1 ∙ passed-over (d .try-face .result) (l .b) (w .0 .left) ∙ tried) (l .inv .3)))
-    (c .if1 .came)
+    (λ w.
+    let x = c .before .candidate .result .x in
+    let valued = w .6 ∙ w .5 .ensures ∙ ap (λ (v : Float). pickOf (valuedOf (c .before .before .next .result) x v) (l .best)) (w .3 .ensures) in
+    (on, under, f, next (valued ∙ ap (λ (t : Tried). pickOf t (l .best)) (if-true _ (w .0 .taken) refl ∙ tried)) (l .inv .3)))
+    (λ w. (on, under, f, next (w .1 ∙ passed-over noTry (l .best) refl ∙ ap (λ (t : Tried). pickOf t (l .best)) (if-false _ (w .0 .left) refl ∙ tried)) (l .inv .3)))
+    (c .if2 .came)
 
-returns : tie.Need-returns Inv-loop μ-loop
-returns c = ended _ _ _ (c .loop-test .left) (c .before .loop .inv .3)
+returns-2 : tie.Need-returns-2 Inv-loop μ-loop
+returns-2 c = ended _ _ _ (c .loop-test .left) (c .before .loop .inv .3)
 
 pub best-spec : {M : Type 1} → statement M
 best-spec =
@@ -72,11 +92,15 @@ best-spec =
     (tie.spec
     Inv-loop
     μ-loop
+    (λ c κs. search needs)
+    (λ c κs. search needs)
+    returns
     loop-holds
     next-requires
-    try-face-requires
+    candidate-requires
+    (λ c κs. search needs)
     (λ c κs. search needs)
     (λ c. search needs)
     (λ c. search needs)
     loop-again
-    returns)
+    returns-2)

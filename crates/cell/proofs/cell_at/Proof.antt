@@ -7,7 +7,7 @@ use borrow.Author.Needs.{needs}
 use Rattle.laws.specs.Floats.{at}
 use Rattle.laws.specs.Room.{filledOn}
 use Rattle.cell.specs.Least.{hOf}
-use Rattle.cell.specs.Cell.{posedOf}
+use Rattle.cell.specs.Cell.{fitModel, posedOf}
 use Rattle.cell.specs.Lent.{ysOn, hsOn}
 use Rattle.cell.proofs.Laws.{lengths-in-range}
 use Rattle.cell.proofs.cell_at.Statement.{statement}
@@ -21,8 +21,8 @@ returns c =
     let s = g .before .before .before .before .before in
     let a = s .args in
     let y = g .fill-ys .ensures in
-    let h = lengths-in-range _ _ _ _ (s .pre .1) (f .with-one .ensures) ∙ ap (λ (t : List Float). filledOn (length (a .ks .now)) (λ i. hOf (at t i)) (a .hs .now)) y in
-    (c .posed .ensures ∙ ap₂ (λ (y h : List Float). posedOf (a .k) (at y) (at h) (a .ws .now) (a .ts .now) (a .l) (a .sigma)) y h, (y, h))
+    let h = lengths-in-range _ _ _ _ (s .pre .0) (f .with-one .ensures) ∙ ap (λ (t : List Float). filledOn (length (a .ks .now)) (λ i. hOf (at t i)) (a .hs .now)) y in
+    (c .posed .ensures ∙ ap₂ (λ (y h : List Float). posedOf fitModel (at y) (at h) (a .ws .now) (a .ts .now) (a .l) (a .sigma)) y h, (y, h))
 
 pub cell-at-spec : {M : Type 1} → statement M
 cell-at-spec =

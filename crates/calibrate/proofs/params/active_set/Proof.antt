@@ -8,7 +8,7 @@ use mathlib.Core.Bool.{false, _||_}
 use lib.ListN.{getD, set}
 use lib.Ieee.{Float, le}
 use Rattle.laws.specs.Floats.{_-f_}
-use Rattle.cell.specs.Polytope.{dotOf}
+use Rattle.polytope.specs.Polytope.{dotOf}
 use Rattle.calibrate.specs.End.{activeOf}
 use native.Mathlib.Omega.{arith}
 use Rattle.calibrate.proofs.params.active_set.Statement.{statement}

@@ -1,0 +1,126 @@
+-- The systems of a cell's faces as the code lays them out, in six rows of eight, and what it works out once for all of them. No reader has to believe this: proofs/Systems shows that the points are those of Cell.
+-- Definitions only.
+use mathlib.Core.Path.{_≡_}
+use mathlib.Core.Bool.{Bool, true, false, cond}
+use mathlib.Core.List.{List, [], _∷_}
+use Prim.Native.Nat.{ℕ, _+_, _*_, _<_}
+use lib.ListN.{length, replicate}
+use lib.Ieee.{Float, lt, isNan}
+use Rattle.laws.specs.Floats.{_*f_, +0, one, two, at, absOf, maxOf}
+use Rattle.solver.specs.Solve.{standing, scaleOf, eliminatedOf, backIf}
+use Rattle.solver.specs.declared.Solved.{Solved}
+use Rattle.cell.specs.declared.Face.{Face}
+use Rattle.cell.specs.declared.Line.{Line}
+use Rattle.cell.specs.declared.Normal.{Normal}
+use Rattle.cell.specs.declared.Point.{Point}
+use Rattle.cell.specs.Faces.{faceAt}
+use Rattle.polytope.specs.Polytope.{rowsOf}
+use Rattle.cell.specs.Cell.{Problem, problem, kktOf, rhsOf, widened}
+
+-- ---- the block of all systems: twice the normal equations, each line with its right side behind
+
+abbrev pub doubledOf : Normal → List Float
+doubledOf n =
+    two *f n .a .q0 ∷ two *f n .a .q1 ∷ two *f n .a .q2 ∷ two *f n .a .lin
+    ∷ two *f n .d .q0 ∷ two *f n .d .q1 ∷ two *f n .d .q2 ∷ two *f n .d .lin
+    ∷ two *f n .c .q0 ∷ two *f n .c .q1 ∷ two *f n .c .q2 ∷ two *f n .c .lin ∷ []
+
+-- its line from place o on, and all three
+abbrev pub lineAt : ℕ → List Float → Line
+lineAt o b = record { lin = at b (o + 3); q0 = at b o; q1 = at b (o + 1); q2 = at b (o + 2) }
+
+abbrev pub linesOf : List Float → Normal
+linesOf b = record { a = lineAt 0 b; d = lineAt 4 b; c = lineAt 8 b }
+
+-- the block as `baseOf` and `rightOf` have it
+abbrev pub blockOf : List Float → List Float
+blockOf b =
+    at b 0 ∷ at b 1 ∷ at b 2 ∷ +0 ∷ +0 ∷ +0
+    ∷ at b 4 ∷ at b 5 ∷ at b 6 ∷ +0 ∷ +0 ∷ +0
+    ∷ at b 8 ∷ at b 9 ∷ at b 10 ∷ +0 ∷ +0 ∷ +0 ∷ replicate 18 +0
+
+abbrev pub sideOf : List Float → List Float
+sideOf b = at b 3 ∷ at b 7 ∷ at b 11 ∷ +0 ∷ +0 ∷ +0 ∷ []
+
+-- the problem of a cell whose block is b
+abbrev pub problemIn : List Float → List Float → List Float → Float → Float → Problem
+problemIn b g h pivot slack = problem 3 7 (blockOf b) (sideOf b) g h pivot slack
+
+-- ---- the scales
+
+-- a number that is not below zero
+pub record Sized (a : Float) : Type 0 where
+  pub number : isNan a ≡ false
+  pub above : lt a +0 ≡ false
+
+-- the largest magnitude of three entries, and at least acc
+abbrev pub lineScale : Float → Float → Float → Float → Float
+lineScale acc x y z = maxOf (maxOf (maxOf acc (absOf x)) (absOf y)) (absOf z)
+
+-- that of the empty face, and that of every other one: a constraint has an entry of magnitude 1, and none of more
+abbrev pub emptyScale : List Float → Float
+emptyScale b = scaleOf 3 (blockOf b)
+
+abbrev pub otherScale : List Float → Float
+otherScale b = cond (lt (emptyScale b) one) one (emptyScale b)
+
+-- every face but the empty one has this scale
+abbrev pub Scaled : List Float → Float → Type 0
+Scaled b scale = (t : ℕ) → 0 < t → t < 64 → scaleOf (3 + faceAt 3 7 t .size) (kktOf (blockOf b) rowsOf 3 (faceAt 3 7 t)) ≡ scale
+
+-- ---- the answer of a face's system under a limit of its pivots
+
+abbrev pub answerOf : List Float → List Float → List Float → Float → Face → Solved
+answerOf b g h limit f =
+    backIf (3 + f .size) (eliminatedOf (3 + f .size) limit (standing (kktOf (blockOf b) g 3 f) (rhsOf (sideOf b) h 3 f)))
+
+-- a point is the first three unknowns of an answer, where there is one
+pub record Meets (r : Point) (s : Solved) : Type 0 where
+  pub ok : r .ok ≡ s .ok
+  pub x : r .ok ≡ true → r .x ≡ widened (s .x)
+
+-- the three unknowns from place o on
+abbrev pub pointAt : ℕ → Bool → List Float → Point
+pointAt o ok y = record { x = at y o ∷ at y (o + 1) ∷ at y (o + 2) ∷ []; ok = ok }
+
+-- ---- the systems in six rows of eight: columns, right side, and a place that is not used; the last rows and columns count
+
+-- constraint c as a line
+abbrev pub constraintOf : List Float → List Float → ℕ → Line
+constraintOf g h c = record { lin = at h c; q0 = at g (c * 3); q1 = at g (c * 3 + 1); q2 = at g (c * 3 + 2) }
+
+abbrev pub noneIn : Normal → List Float
+noneIn n =
+    +0 ∷ +0 ∷ +0 ∷ +0 ∷ +0 ∷ +0 ∷ +0 ∷ +0
+    ∷ +0 ∷ +0 ∷ +0 ∷ +0 ∷ +0 ∷ +0 ∷ +0 ∷ +0
+    ∷ +0 ∷ +0 ∷ +0 ∷ +0 ∷ +0 ∷ +0 ∷ +0 ∷ +0
+    ∷ +0 ∷ +0 ∷ +0 ∷ n .a .q0 ∷ n .a .q1 ∷ n .a .q2 ∷ n .a .lin ∷ +0
+    ∷ +0 ∷ +0 ∷ +0 ∷ n .d .q0 ∷ n .d .q1 ∷ n .d .q2 ∷ n .d .lin ∷ +0
+    ∷ +0 ∷ +0 ∷ +0 ∷ n .c .q0 ∷ n .c .q1 ∷ n .c .q2 ∷ n .c .lin ∷ +0 ∷ []
+
+abbrev pub oneIn : Normal → Line → List Float
+oneIn n i =
+    +0 ∷ +0 ∷ +0 ∷ +0 ∷ +0 ∷ +0 ∷ +0 ∷ +0
+    ∷ +0 ∷ +0 ∷ +0 ∷ +0 ∷ +0 ∷ +0 ∷ +0 ∷ +0
+    ∷ +0 ∷ +0 ∷ n .a .q0 ∷ n .a .q1 ∷ n .a .q2 ∷ i .q0 ∷ n .a .lin ∷ +0
+    ∷ +0 ∷ +0 ∷ n .d .q0 ∷ n .d .q1 ∷ n .d .q2 ∷ i .q1 ∷ n .d .lin ∷ +0
+    ∷ +0 ∷ +0 ∷ n .c .q0 ∷ n .c .q1 ∷ n .c .q2 ∷ i .q2 ∷ n .c .lin ∷ +0
+    ∷ +0 ∷ +0 ∷ i .q0 ∷ i .q1 ∷ i .q2 ∷ +0 ∷ i .lin ∷ +0 ∷ []
+
+abbrev pub twoIn : Normal → Line → Line → List Float
+twoIn n i j =
+    +0 ∷ +0 ∷ +0 ∷ +0 ∷ +0 ∷ +0 ∷ +0 ∷ +0
+    ∷ +0 ∷ n .a .q0 ∷ n .a .q1 ∷ n .a .q2 ∷ i .q0 ∷ j .q0 ∷ n .a .lin ∷ +0
+    ∷ +0 ∷ n .d .q0 ∷ n .d .q1 ∷ n .d .q2 ∷ i .q1 ∷ j .q1 ∷ n .d .lin ∷ +0
+    ∷ +0 ∷ n .c .q0 ∷ n .c .q1 ∷ n .c .q2 ∷ i .q2 ∷ j .q2 ∷ n .c .lin ∷ +0
+    ∷ +0 ∷ i .q0 ∷ i .q1 ∷ i .q2 ∷ +0 ∷ +0 ∷ i .lin ∷ +0
+    ∷ +0 ∷ j .q0 ∷ j .q1 ∷ j .q2 ∷ +0 ∷ +0 ∷ j .lin ∷ +0 ∷ []
+
+abbrev pub threeIn : Normal → Line → Line → Line → List Float
+threeIn n i j k =
+    n .a .q0 ∷ n .a .q1 ∷ n .a .q2 ∷ i .q0 ∷ j .q0 ∷ k .q0 ∷ n .a .lin ∷ +0
+    ∷ n .d .q0 ∷ n .d .q1 ∷ n .d .q2 ∷ i .q1 ∷ j .q1 ∷ k .q1 ∷ n .d .lin ∷ +0
+    ∷ n .c .q0 ∷ n .c .q1 ∷ n .c .q2 ∷ i .q2 ∷ j .q2 ∷ k .q2 ∷ n .c .lin ∷ +0
+    ∷ i .q0 ∷ i .q1 ∷ i .q2 ∷ +0 ∷ +0 ∷ +0 ∷ i .lin ∷ +0
+    ∷ j .q0 ∷ j .q1 ∷ j .q2 ∷ +0 ∷ +0 ∷ +0 ∷ j .lin ∷ +0
+    ∷ k .q0 ∷ k .q1 ∷ k .q2 ∷ +0 ∷ +0 ∷ +0 ∷ k .lin ∷ +0 ∷ []

@@ -1,0 +1,133 @@
+-- The substitution back in six rows of eight finds what the plain one finds. Assumes nothing.
+use mathlib.Core.Path.{_≡_, refl, sym, ap, ap₂, subst, _∙_}
+use mathlib.Core.Bool.{Bool, true, false, cond}
+use mathlib.Core.List.{List}
+use Prim.Native.Nat.{ℕ, zero, suc, _+_, _-_, _≤_, _<_}
+use mathlib.Core.Logic.{⊎-elim}
+use native.Mathlib.Nat.{eq-or-lt-of-le}
+use native.Mathlib.Omega.{arith}
+use lib.ListN.{length, set, replicate, length-set, length-replicate}
+use lib.Seq.{getD-set-same, getD-set-other}
+use lib.Ieee.{Float, nan}
+use Rattle.laws.specs.Loop.{turns}
+use Rattle.laws.specs.Floats.{_+f_, _-f_, _*f_, _/f_, +0, at, finite}
+use Rattle.laws.proofs.Choices.{false-true}
+use Rattle.solver.specs.declared.Solved.{Solved}
+use Rattle.solver.specs.Solve.{entry, refused, tailOf, placed, backRowOf, backOf}
+use Rattle.solver.specs.Rows.{Room, room, spot, tailIn, valueIn, backRowIn, backIn}
+use Rattle.solver.proofs.Views.{Stepped, Found}
+
+-- ---- two loops
+
+-- loops whose turns agree, one o places further on than the other, agree
+shifted : {S : Type 0} (f g : ℕ → S → S) (o k i j : ℕ) (s : S) → j ≡ i + o → ((q : ℕ) → i ≤ q → q < i + k → (s : S) → g q s ≡ f (q + o) s) → turns g k i s ≡ turns f k j s
+unfolding turns
+shifted f g o zero i j s e same = refl
+shifted f g o (suc k) i j s e same =
+    shifted f g o k (i + 1) (j + 1) (g i s) (omega arith) (λ q l h. same q (omega arith) (omega arith))
+    ∙ ap (turns f k (j + 1)) (same i (omega arith) (omega arith) s ∙ ap (λ (q : ℕ). f q s) (sym e))
+
+-- what two loops keep between them, turn by turn, holds at their end
+module _ {S T : Type 0} (f : ℕ → S → S) (g : ℕ → T → T) (P : ℕ → S → T → Type 0) (b : ℕ) (step : (j : ℕ) (s : S) (t : T) → j < b → P j s t → P (j + 1) (f j s) (g j t)) where
+  together : (k i : ℕ) (s : S) (t : T) → i + k ≡ b → P i s t → P b (turns f k i s) (turns g k i t)
+  unfolding turns
+  together zero i s t e p = let h : i ≡ b = omega arith in subst (λ (q : ℕ). P q s t) h p
+  together (suc k) i s t e p = together k (i + 1) (f i s) (g i t) (omega arith) (step i s t (omega arith) p)
+
+-- ---- one row
+
+-- the unknowns from place row on agree
+abbrev Agree : ℕ → ℕ → ℕ → List Float → List Float → Type 0
+Agree n o row x y = (i : ℕ) → row ≤ i → i < n → at x i ≡ at y (i + o)
+
+-- both answers, of which the unknowns from place row on are found
+record Both (n o row : ℕ) (s : Solved) (u : Room) : Type 0 where
+  same : s .ok ≡ u .ok
+  plain : length (s .x) ≡ 6
+  rows : length (u .m) ≡ 6
+  values : s .ok ≡ true → Agree n o row (s .x) (u .m)
+
+module _ (n o : ℕ) (m rhs t : List Float) (six : n + o ≡ 6) (st : Stepped n o m rhs t) where
+  -- the same sum right of the diagonal
+  tails : (row : ℕ) (x y : List Float) → row < n → Agree n o (row + 1) x y → tailOf n m x row ≡ tailIn t y (row + o)
+  unfolding tailOf tailIn
+  tails row x y l a =
+      let count : n - (row + 1) ≡ 6 - (row + o + 1) = omega arith in
+      shifted (λ j tail. tail +f spot t (row + o) j *f at y j) (λ j tail. tail +f entry m row j *f at x j) o (n - (row + 1)) (row + 1) (row + o + 1) +0 (omega arith)
+      (λ q h u s. ap₂ (λ (c d : Float). s +f c *f d) (st .entries row q (omega arith) (omega arith)) (a q (omega arith) (omega arith)))
+      ∙ ap (λ (k : ℕ). turns (λ j tail. tail +f spot t (row + o) j *f at y j) k (row + o + 1) +0) count
+
+  -- the plain value of a row
+  abbrev valueOf : List Float → ℕ → Float
+  valueOf x row = (at rhs row -f tailOf n m x row) /f entry m row row
+
+  -- is the rows' value
+  same-value : (row : ℕ) (x y : List Float) → row < n → Agree n o (row + 1) x y → valueOf x row ≡ valueIn t y (row + o)
+  same-value row x y l a = ap₂ _/f_ (ap₂ _-f_ (st .rights row l) (tails row x y l a)) (st .entries row row (omega arith) l)
+
+  -- a value in its place, in both
+  put : (row : ℕ) (x y : List Float) (v w : Float) → row < n → v ≡ w → length x ≡ 6 → length y ≡ 6 → Agree n o (row + 1) x y → Agree n o row (set x row v) (set y (row + o) w)
+  put row x y v w l e p q a i h u =
+      ⊎-elim
+      (λ (d : row ≡ i).
+      subst (λ (i : ℕ). at (set x row v) i ≡ at (set y (row + o) w) (i + o)) d
+      (getD-set-same x row v nan (omega arith) ∙ e ∙ sym (getD-set-same y (row + o) w nan (omega arith))))
+      (λ d.
+      getD-set-other x row i v nan (λ z. omega arith) ∙ a i (omega arith) u ∙ sym (getD-set-other y (row + o) (i + o) w nan (λ z. omega arith)))
+      (eq-or-lt-of-le h)
+
+  -- one row more
+  one-row : (row : ℕ) (s : Solved) (u : Room) → row < n → Both n o (row + 1) s u → Both n o row (backRowOf n m rhs row s) (backRowIn t (row + o) u)
+  unfolding backRowOf backRowIn placed
+  one-row row s u l p = go (s .ok) (u .ok) refl refl
+    where
+      v : Float
+      v = valueOf (s .x) row
+
+      w : Float
+      w = valueIn t (u .m) (row + o)
+
+      found : (b : Bool) → finite v ≡ b → v ≡ w → s .ok ≡ true → Both n o row (cond b (record { ok = true; x = set (s .x) row v }) refused) (room (finite w) (set (u .m) (row + o) w))
+      found true f e h =
+          record {
+            same = sym f ∙ ap finite e;
+            plain = length-set (s .x) row v ∙ p .plain;
+            rows = length-set (u .m) (row + o) w ∙ p .rows;
+            values = λ k. put row (s .x) (u .m) v w l e (p .plain) (p .rows) (p .values h);
+          }
+      found false f e h =
+          record { same = sym f ∙ ap finite e; plain = length-replicate 6 +0; rows = length-set (u .m) (row + o) w ∙ p .rows; values = λ k. false-true k }
+
+      go : (b c : Bool) → s .ok ≡ b → u .ok ≡ c → Both n o row (cond b (placed row v s) s) (cond c (room (finite w) (set (u .m) (row + o) w)) u)
+      go true true h k = found (finite v) refl (same-value row (s .x) (u .m) l (p .values h)) h
+      go false false h k = record { same = p .same; plain = p .plain; rows = p .rows; values = λ z. false-true (sym h ∙ z) }
+      go true false h k = false-true (sym k ∙ sym (p .same) ∙ h)
+      go false true h k = false-true (sym h ∙ p .same ∙ k)
+
+  -- every row
+  all-rows : (x : List Float) → length x ≡ 6 → Both n o 0 (backOf n m rhs) (backIn n t x)
+  unfolding backOf backIn
+  all-rows x six-x =
+      let e : n - n ≡ 0 = omega arith in
+      subst (λ (row : ℕ). Both n o row (backOf n m rhs) (backIn n t x)) e
+      (together (λ k s. backRowOf n m rhs (n - 1 - k) s) (λ k u. backRowIn t (5 - k) u) (λ k s u. Both n o (n - k) s u) n
+      (λ k s u l p. step k s u l p) (n - 0) 0 (record { ok = true; x = replicate 6 +0 }) (room true x) (omega arith)
+      (record { same = refl; plain = length-replicate 6 +0; rows = six-x; values = λ z. none }))
+    where
+      none : Agree n o (n - 0) (replicate 6 +0) x
+      none i h l = absurd (omega arith)
+
+      step : (k : ℕ) (s : Solved) (u : Room) → k < n → Both n o (n - k) s u → Both n o (n - (k + 1)) (backRowOf n m rhs (n - 1 - k) s) (backRowIn t (5 - k) u)
+      step k s u l p =
+          let a : n - k ≡ n - 1 - k + 1 = omega arith in
+          let b : n - 1 - k ≡ n - (k + 1) = omega arith in
+          let d : n - 1 - k + o ≡ 5 - k = omega arith in
+          let r = one-row (n - 1 - k) s u (omega arith) (subst (λ (q : ℕ). Both n o q s u) a p) in
+          let z = subst (λ (q : ℕ). Both n o q (backRowOf n m rhs (n - 1 - k) s) (backRowIn t (n - 1 - k + o) u)) b r in
+          subst (λ (q : ℕ). Both n o (n - (k + 1)) (backRowOf n m rhs (n - 1 - k) s) (backRowIn t q u)) d z
+
+-- the whole substitution
+pub backed : (n o : ℕ) (m rhs t x : List Float) → n + o ≡ 6 → length x ≡ 6 → Stepped n o m rhs t → Found n o (backOf n m rhs) (backIn n t x)
+backed n o m rhs t x six six-x st =
+    let b = all-rows n o m rhs t six st x six-x in
+    record { same = b .same; values = λ h i l. b .values h i (omega arith) l }

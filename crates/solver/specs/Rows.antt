@@ -1,0 +1,96 @@
+-- The elimination as the code does it: six rows of eight numbers, in which a system of n unknowns stands in the last n rows and columns, with its right side in column 6 of each row;
+-- column 7 is not used. No reader has to believe this: proofs/Same shows that its answers are those of Solve. What it leaves in lent room is said here alone. Definitions only.
+use mathlib.Core.Bool.{Bool, true, false, _&&_, cond}
+use mathlib.Core.List.{List}
+use Prim.Native.Nat.{ℕ, _+_, _-_, _*_}
+use lib.Dec.{leb, ltb}
+use lib.ListN.{set, replicate}
+use lib.Ieee.{Float, le, eq}
+use Rattle.laws.specs.Loop.{for}
+use Rattle.laws.specs.Choice.{unless}
+use Rattle.laws.specs.Floats.{_+f_, _-f_, _*f_, _/f_, +0, at, absOf, finite}
+use Rattle.solver.specs.Solve.{ranked, exchange}
+
+-- a list of numbers, and whether it still stands
+pub record Room : Type 0 where
+  pub ok : Bool
+  pub m : List Float
+
+abbrev pub room : Bool → List Float → Room
+room ok m = record { ok = ok; m = m }
+
+-- the number in row i and column j
+abbrev pub spot : List Float → ℕ → ℕ → Float
+spot m i j = at m (i * 8 + j)
+
+-- ---- one column
+
+-- the row from col on that has the largest magnitude in column col, as `pivotRowOf`
+unfoldable pub pivotIn : ℕ → List Float → ℕ
+pivotIn col m = for (col + 1) 6 (λ i p. cond (ranked (absOf (spot m p col)) (absOf (spot m i col))) i p) col
+
+-- rows a and b change places from column a on
+unfoldable pub swapIn : ℕ → ℕ → List Float → List Float
+swapIn a b m = for a 7 (λ j m. exchange m (a * 8 + j) (b * 8 + j)) m
+
+-- right of column col, the row less the factor times row col
+unfoldable pub lessIn : ℕ → ℕ → Float → List Float → List Float
+lessIn col row factor m = for (col + 1) 7 (λ j m. set m (row * 8 + j) (spot m row j -f factor *f spot m col j)) m
+
+-- a row whose factor is a zero is left as it is
+unfoldable pub rowIn : ℕ → ℕ → Float → List Float → List Float
+rowIn col row factor m = cond (eq factor +0) m (lessIn col row factor m)
+
+-- the rows below col
+unfoldable pub clearIn : ℕ → List Float → List Float
+clearIn col m = for (col + 1) 6 (λ row m. rowIn col row (spot m row col /f spot m col col) m) m
+
+-- the pivot, in row p, is brought up; one of at most the limit refuses
+unfoldable pub raisedIn : Float → ℕ → ℕ → List Float → Room
+raisedIn limit col p m = cond (le (absOf (spot m p col)) limit) (room false m) (room true (swapIn col p m))
+
+unfoldable pub clearedIn : ℕ → Room → Room
+clearedIn col s = cond (s .ok) (room true (clearIn col (s .m))) s
+
+-- one column; what is refused is passed on
+unfoldable pub columnIn : Float → ℕ → Room → Room
+columnIn limit col s = cond (s .ok) (clearedIn col (raisedIn limit col (pivotIn col (s .m)) (s .m))) s
+
+-- ---- the elimination of n unknowns: the last n of the six columns, from column k on
+
+unfoldable pub fromIn : ℕ → ℕ → Float → Room → Room
+fromIn k n limit s = for k 6 (λ col s. cond (leb 6 (n + col)) (columnIn limit col s) s) s
+
+-- ---- the unknowns, from the last row up, each in its row's place of x
+
+unfoldable pub tailIn : List Float → List Float → ℕ → Float
+tailIn m x row = for (row + 1) 6 (λ j tail. tail +f spot m row j *f at x j) +0
+
+abbrev pub valueIn : List Float → List Float → ℕ → Float
+valueIn m x row = (spot m row 6 -f tailIn m x row) /f spot m row row
+
+-- a value that is not finite refuses
+unfoldable pub backRowIn : List Float → ℕ → Room → Room
+backRowIn m row s = cond (s .ok) (room (finite (valueIn m (s .m) row)) (set (s .m) row (valueIn m (s .m) row))) s
+
+unfoldable pub backIn : ℕ → List Float → List Float → Room
+backIn n m x = for 0 n (λ k s. backRowIn m (5 - k) s) (room true x)
+
+-- ---- the whole: what is left in the room of the rows, and in that of the unknowns; no size but 1 to 6 changes either
+
+unfoldable pub leftIn : ℕ → Float → List Float → Room
+leftIn n limit m = unless (ltb 0 n && leb n 6) (room false m) (fromIn 0 n limit (room true m))
+
+unfoldable pub solvedIn : ℕ → Float → List Float → List Float → Room
+solvedIn n limit m x = unless (leftIn n limit m .ok) (room false x) (backIn n (leftIn n limit m .m) x)
+
+-- ---- a system of the 6 by 6 form put into the rows, and its unknowns taken out
+
+unfoldable pub placedRow : ℕ → List Float → ℕ → List Float → List Float
+placedRow n m i t = for 0 n (λ j t. set t ((6 - n + i) * 8 + (6 - n + j)) (at m (i * 6 + j))) t
+
+unfoldable pub placedOf : ℕ → List Float → List Float → List Float
+placedOf n m rhs = for 0 n (λ i t. set (placedRow n m i t) ((6 - n + i) * 8 + 6) (at rhs i)) (replicate 48 +0)
+
+unfoldable pub firstOf : ℕ → List Float → List Float
+firstOf n x = for 0 n (λ i r. set r i (at x (6 - n + i))) (replicate 6 +0)
