@@ -73,6 +73,23 @@ fn place(m: &[f64; 36], rhs: &[f64; 6], n: usize) -> [f64; 48]
     t
 }
 
+// The same. Each size of a face has a call of its own, so that the compiler writes its loops out.
+fn laid(m: &[f64; 36], rhs: &[f64; 6], n: usize) -> [f64; 48]
+    requires { ⌜ n ≤ 6 ⌝ }
+    ensures { λ r. ⌜ r ≡ placedOf n (now (m .entry)) (now (rhs .entry)) ⌝ }
+{
+    if n == 3 {
+        return place(m, rhs, 3);
+    }
+    if n == 4 {
+        return place(m, rhs, 4);
+    }
+    if n == 5 {
+        return place(m, rhs, 5);
+    }
+    place(m, rhs, n)
+}
+
 // The last n of six numbers, first.
 fn first(x: &[f64; 6], n: usize) -> [f64; 6]
     requires { ⌜ n ≤ 6 ⌝ }
@@ -93,7 +110,7 @@ pub fn solve(m: [f64; 36], rhs: [f64; 6], n: usize, tol: f64) -> Solved
     if n <= 6 {
         let scale = scale_of(&m, n);
         if bits::is_finite(scale) & (scale > 0.0) {
-            let mut t = place(&m, &rhs, n);
+            let mut t = laid(&m, &rhs, n);
             let mut x = [0.0; 6];
             if rows::solve_rows(&mut t, n, tol * scale, &mut x) {
                 return Solved {

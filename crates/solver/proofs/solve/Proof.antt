@@ -20,7 +20,7 @@ returns c =
     let r = c .before .before .before .solve-rows in
     let test = ap (λ (b : Bool). b && lt +0 (s .result)) (sym (c .before .before .before .before .before .before .before .before .before .before .is-finite .ensures)) ∙ c .before .before .before .before .before .before .before .before .before .if2 .taken in
     accepts (a .n) (a .t1) (a .t2) (a .tol) (s .result) (c .before .before .before .before .before .before .before .before .before .before .before .before .before .if1 .taken) (g .0 .1 .0 .1) (g .1 .0 .1 .0 .1) (s .ensures) test
-    (c .before .before .before .before .before .before .place .result) (r .last .1 .1 .1 .0) (c .first .result) (r .result) (c .before .before .before .before .before .before .place .ensures) (ap₂ room (r .ensures .0) (r .ensures .1 .1)) (c .before .before .if3 .taken) (c .first .ensures)
+    (c .before .before .before .before .before .before .laid .result) (r .last .1 .1 .1 .0) (c .first .result) (r .result) (c .before .before .before .before .before .before .laid .ensures) (ap₂ room (r .ensures .0) (r .ensures .1 .1)) (c .before .before .if3 .taken) (c .first .ensures)
 
 returns-2 : tie.Need-returns-2
 returns-2 c =
@@ -30,7 +30,7 @@ returns-2 c =
     let r = c .before .solve-rows in
     let test = ap (λ (b : Bool). b && lt +0 (s .result)) (sym (c .before .before .before .before .before .before .before .before .is-finite .ensures)) ∙ c .before .before .before .before .before .before .before .if2 .taken in
     refuses (a .n) (a .t1) (a .t2) (a .tol) (s .result) (c .before .before .before .before .before .before .before .before .before .before .before .if1 .taken) (g .0 .1 .0 .1) (g .1 .0 .1 .0 .1) (s .ensures) test
-    (c .before .before .before .before .place .result) (r .last .1 .1 .1 .0) (r .result) (c .before .before .before .before .place .ensures) (ap₂ room (r .ensures .0) (r .ensures .1 .1)) (c .if3 .left)
+    (c .before .before .before .before .laid .result) (r .last .1 .1 .1 .0) (r .result) (c .before .before .before .before .laid .ensures) (ap₂ room (r .ensures .0) (r .ensures .1 .1)) (c .if3 .left)
 
 returns-3 : tie.Need-returns-3
 returns-3 c =
