@@ -4,7 +4,7 @@ use mathlib.Core.Path.{_≡_}
 use mathlib.Core.Bool.{Bool, true, false, cond}
 use mathlib.Core.List.{List, [], _∷_}
 use Prim.Native.Nat.{ℕ, _+_, _*_, _<_}
-use lib.ListN.{length, replicate}
+use lib.ListN.{replicate}
 use lib.Ieee.{Float, lt, isNan}
 use Rattle.laws.specs.Floats.{_*f_, +0, one, two, at, absOf, maxOf}
 use Rattle.solver.specs.Solve.{standing, scaleOf, eliminatedOf, backIf}

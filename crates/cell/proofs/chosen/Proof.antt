@@ -1,5 +1,5 @@
 -- `cell::chosen` meets its contract. Assumes nothing.
-use mathlib.Core.Path.{refl, sym, ap, subst, _∙_}
+use mathlib.Core.Path.{sym, ap, subst, _∙_}
 use mathlib.Core.Bool.{cond}
 use lib.Ieee.{Float, lt}
 use borrow.Author.Needs.{needs}
@@ -8,8 +8,8 @@ use Rattle.laws.proofs.Choices.{if-true, if-false}
 use Rattle.cell.specs.declared.Tried.{Tried}
 use Rattle.cell.specs.Faces.{faceAt}
 use Rattle.cell.specs.Least.{objectiveAt}
-use Rattle.cell.specs.Cell.{tryOf, cellFrom, chosenFrom, chosenOf}
-use Rattle.cell.specs.Shared.{problemIn, otherScale, Scaled}
+use Rattle.cell.specs.Cell.{cellFrom, chosenFrom, chosenOf}
+use Rattle.cell.specs.Shared.{problemIn, Scaled}
 use Rattle.cell.proofs.Laws.{try-good, best-good}
 use Rattle.cell.proofs.Orders.{fit-order}
 use Rattle.cell.proofs.chosen.Statement.{statement}

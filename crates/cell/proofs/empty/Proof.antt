@@ -1,12 +1,11 @@
 -- `cell::empty` meets its contract. Assumes nothing.
 use mathlib.Core.Path.{sym, ap, ap₂, _∙_}
-use mathlib.Core.List.{List, []}
-use Prim.Native.Nat.{_≤_}
+use mathlib.Core.List.{[]}
 use native.Mathlib.Omega.{arith}
 use lib.Ieee.{Float}
 use borrow.Author.Tests.{not-true, not-false}
 use borrow.Author.Needs.{needs}
-use Rattle.laws.specs.Floats.{_*f_, positive}
+use Rattle.laws.specs.Floats.{positive}
 use Rattle.laws.proofs.Choices.{if-true, if-false}
 use Rattle.cell.specs.declared.Tried.{Tried}
 use Rattle.cell.specs.Faces.{faceOf}
