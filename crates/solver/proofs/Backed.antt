@@ -2,37 +2,20 @@
 use mathlib.Core.Path.{_≡_, refl, sym, ap, ap₂, subst, _∙_}
 use mathlib.Core.Bool.{Bool, true, false, cond}
 use mathlib.Core.List.{List}
-use Prim.Native.Nat.{ℕ, zero, suc, _+_, _-_, _≤_, _<_}
+use Prim.Native.Nat.{ℕ, _+_, _-_, _≤_, _<_}
 use mathlib.Core.Logic.{⊎-elim}
-use native.Mathlib.Nat.{eq-or-lt-of-le}
+use native.Mathlib.Nat.{add-zero, eq-or-lt-of-le}
 use native.Mathlib.Omega.{arith}
 use lib.ListN.{length, set, replicate, length-set, length-replicate}
 use lib.Seq.{getD-set-same, getD-set-other}
 use lib.Ieee.{Float, nan}
-use Rattle.laws.specs.Loop.{turns}
 use Rattle.laws.specs.Floats.{_+f_, _-f_, _*f_, _/f_, +0, at, finite}
 use Rattle.laws.proofs.Choices.{false-true}
 use Rattle.solver.specs.declared.Solved.{Solved}
 use Rattle.solver.specs.Solve.{entry, refused, tailOf, placed, backRowOf, backOf}
 use Rattle.solver.specs.Rows.{Room, room, spot, tailIn, valueIn, backRowIn, backIn}
 use Rattle.solver.proofs.Views.{Stepped, Found}
-
--- ---- two loops
-
--- loops whose turns agree, one o places further on than the other, agree
-shifted : {S : Type 0} (f g : ℕ → S → S) (o k i j : ℕ) (s : S) → j ≡ i + o → ((q : ℕ) → i ≤ q → q < i + k → (s : S) → g q s ≡ f (q + o) s) → turns g k i s ≡ turns f k j s
-unfolding turns
-shifted f g o zero i j s e same = refl
-shifted f g o (suc k) i j s e same =
-    shifted f g o k (i + 1) (j + 1) (g i s) (omega arith) (λ q l h. same q (omega arith) (omega arith))
-    ∙ ap (turns f k (j + 1)) (same i (omega arith) (omega arith) s ∙ ap (λ (q : ℕ). f q s) (sym e))
-
--- what two loops keep between them, turn by turn, holds at their end
-module _ {S T : Type 0} (f : ℕ → S → S) (g : ℕ → T → T) (P : ℕ → S → T → Type 0) (b : ℕ) (step : (j : ℕ) (s : S) (t : T) → j < b → P j s t → P (j + 1) (f j s) (g j t)) where
-  together : (k i : ℕ) (s : S) (t : T) → i + k ≡ b → P i s t → P b (turns f k i s) (turns g k i t)
-  unfolding turns
-  together zero i s t e p = let h : i ≡ b = omega arith in subst (λ (q : ℕ). P q s t) h p
-  together (suc k) i s t e p = together k (i + 1) (f i s) (g i t) (omega arith) (step i s t (omega arith) p)
+use Rattle.solver.proofs.Segments.{for-both}
 
 -- ---- one row
 
@@ -52,10 +35,9 @@ module _ (n o : ℕ) (m rhs t : List Float) (six : n + o ≡ 6) (st : Stepped n 
   tails : (row : ℕ) (x y : List Float) → row < n → Agree n o (row + 1) x y → tailOf n m x row ≡ tailIn t y (row + o)
   unfolding tailOf tailIn
   tails row x y l a =
-      let count : n - (row + 1) ≡ 6 - (row + o + 1) = omega arith in
-      shifted (λ j tail. tail +f spot t (row + o) j *f at y j) (λ j tail. tail +f entry m row j *f at x j) o (n - (row + 1)) (row + 1) (row + o + 1) +0 (omega arith)
-      (λ q h u s. ap₂ (λ (c d : Float). s +f c *f d) (st .entries row q (omega arith) (omega arith)) (a q (omega arith) (omega arith)))
-      ∙ ap (λ (k : ℕ). turns (λ j tail. tail +f spot t (row + o) j *f at y j) k (row + o + 1) +0) count
+      for-both (λ j tail. tail +f entry m row j *f at x j) (λ j tail. tail +f spot t (row + o) j *f at y j) (λ (j : ℕ) (v w : Float). v ≡ w) (row + 1) n o
+      (λ j v w h u e. ap₂ (λ (c d : Float). v +f c *f d) (st .entries row j (omega arith) (omega arith)) (a j (omega arith) (omega arith)) ∙ ap (λ (v : Float). v +f spot t (row + o) (j + o) *f at y (j + o)) e)
+      (row + o + 1) 6 +0 +0 (omega arith) (omega arith) (omega arith) refl
 
   -- the plain value of a row
   abbrev valueOf : List Float → ℕ → Float
@@ -110,8 +92,8 @@ module _ (n o : ℕ) (m rhs t : List Float) (six : n + o ≡ 6) (st : Stepped n 
   all-rows x six-x =
       let e : n - n ≡ 0 = omega arith in
       subst (λ (row : ℕ). Both n o row (backOf n m rhs) (backIn n t x)) e
-      (together (λ k s. backRowOf n m rhs (n - 1 - k) s) (λ k u. backRowIn t (5 - k) u) (λ k s u. Both n o (n - k) s u) n
-      (λ k s u l p. step k s u l p) (n - 0) 0 (record { ok = true; x = replicate 6 +0 }) (room true x) (omega arith)
+      (for-both (λ k s. backRowOf n m rhs (n - 1 - k) s) (λ k u. backRowIn t (5 - k) u) (λ k s u. Both n o (n - k) s u) 0 n 0
+      (λ k s u h l p. rw add-zero (step k s u l p)) 0 n (record { ok = true; x = replicate 6 +0 }) (room true x) (omega arith) (omega arith) (omega arith)
       (record { same = refl; plain = length-replicate 6 +0; rows = six-x; values = λ z. none }))
     where
       none : Agree n o (n - 0) (replicate 6 +0) x
