@@ -5,15 +5,15 @@ use mathlib.Core.List.{List, []}
 use Prim.Native.Nat.{ℕ, zero, suc, _+_, _-_, _<_, _≤_}
 use native.Mathlib.Omega.{arith}
 use lib.ListN.{length}
-use lib.Dec.{leb}
+use lib.Dec.{leb, ltb}
 use lib.Ieee.{Float, nan, lt}
-use borrow.Author.Tests.{le-leb, leb-true, eqb-true}
+use borrow.Author.Tests.{le-leb, lt-ltb, leb-true, eqb-true}
 use Rattle.laws.specs.Loop.{turns}
 use Rattle.laws.specs.Choice.{unless}
 use Rattle.laws.specs.Floats.{_+f_, _*f_, at, finite, positive}
 use Rattle.laws.proofs.Choices.{if-true, cond-ind, both}
 use Rattle.laws.proofs.Loops.{for-keeps, for-same}
-use Rattle.solver.specs.Solve.{scaleOf, scaledOf, solveOf}
+use Rattle.solver.specs.Solve.{scaleOf, scaledOf, underOf, solveOf}
 use Rattle.solver.specs.declared.Solved.{Solved}
 use Rattle.cell.specs.declared.Face.{Face}
 use Rattle.cell.specs.declared.Model.{Model}
@@ -31,7 +31,7 @@ use Rattle.roots.specs.Hypot.{withOneOf}
 use Rattle.cell.specs.Least.{yOf, hOf, addedTo, normalOf, restOf, objectiveOf}
 use Rattle.cell.specs.Cell.{Problem, kktOf, solutionOf, widened, noTry, valuedOf, metOf, triedOf, tryOf, wins, pickOf, bestOf, chosenOf, problemOf, posedOf, fitModel, cellOf, inRange, noCell, innerOf}
 use Rattle.cell.specs.Lent.{ysOn, hsOn, innerOn}
-use Rattle.cell.specs.Shared.{doubledOf, blockOf, problemIn, emptyScale, Scaled, answerOf, Meets}
+use Rattle.cell.specs.Shared.{doubledOf, blockOf, problemIn, emptyScale, Scaled, answerOf}
 
 -- ---- the rows of the observations, computed once
 
@@ -72,12 +72,15 @@ posed-is m n sigma l b g h s e eb eg eh es =
 
 -- where the scale is positive, a face's solution is the answer under the limit that it sets; else there is none
 module _ (o : List Float → Float) (b g h : List Float) (pivot scale slack : Float) (f : Face) (l : f .size ≤ 3) (e : scaleOf (3 + f .size) (kktOf (blockOf b) g 3 f) ≡ scale) where
+  some : ltb 0 (3 + f .size) ≡ true
+  some = lt-ltb 0 (3 + f .size) (omega arith)
+
   small : leb (3 + f .size) 6 ≡ true
   small = le-leb (3 + f .size) 6 (omega arith)
 
   try-under : positive scale ≡ true → tryOf o (problemIn b g h pivot slack) f ≡ triedOf o (problemIn b g h (pivot *f scale) slack) f (answerOf b g h (pivot *f scale) f)
-  unfolding tryOf triedOf metOf solutionOf solveOf scaledOf
-  try-under p = rw (small, e, p) refl
+  unfolding tryOf triedOf metOf solutionOf solveOf scaledOf underOf
+  try-under p = rw (some, small, e, p) refl
 
   -- r is the candidate under that limit
   pub try-at :
@@ -98,16 +101,15 @@ pub scale-same : (b g : List Float) (f : Face) (scale : Float) (t : ℕ) → f �
 scale-same b g f scale t e d h l m = ap₂ (λ (f : Face) (g : List Float). scaleOf (3 + f .size) (kktOf (blockOf b) g 3 f)) e d ∙ h t l m
 
 -- a face that is solved and feasible is valued at its point; else there is nothing
-module _ (o : List Float → Float) (b g h : List Float) (limit slack : Float) (f : Face) (r : Point) (s : Solved) (M : Meets r s) where
-  pub met : r .ok ≡ true → (t : Bool) → feasibleOf g h 7 slack (r .x) ≡ t → triedOf o (problemIn b g h limit slack) f s ≡ unless t noTry (valuedOf f (r .x) (o (r .x)))
+module _ (o : List Float → Float) (b g h : List Float) (limit slack : Float) (f : Face) (r s : Solved) (e : r ≡ s) where
+  pub met : r .ok ≡ true → (t : Bool) → feasibleOf g h 7 slack (widened (r .x)) ≡ t
+      → triedOf o (problemIn b g h limit slack) f s ≡ unless t noTry (valuedOf f (widened (r .x)) (o (widened (r .x))))
   unfolding triedOf metOf
-  met k t w =
-      let x = M .x k in
-      rw (sym (M .ok) ∙ k, sym x, w) refl
+  met k t w = rw (← e, k, w) refl
 
   pub unmet : r .ok ≡ false → triedOf o (problemIn b g h limit slack) f s ≡ noTry
   unfolding triedOf
-  unmet k = rw (sym (M .ok) ∙ k) refl
+  unmet k = rw (← e, k) refl
 
 -- the code's one test is the definition's two
 pub judge-is : (f : Face) (x : List Float) (v : Float) (b : Tried) → cond (finite v && (not (b .some) || lt v (b .objective))) (record { some = true; objective = v; x = x; face = f }) b ≡ pickOf (valuedOf f x v) b

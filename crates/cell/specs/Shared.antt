@@ -1,21 +1,19 @@
--- The systems of a cell's faces as the code lays them out, in six rows of eight, and what it works out once for all of them. No reader has to believe this: proofs/Systems shows that the points are those of Cell.
--- Definitions only.
+-- What the code works out once for the systems of all faces of a cell. No reader has to believe this: proofs/Laws and proofs/Scaling show that the answers are those of Cell. Definitions only.
 use mathlib.Core.Path.{_≡_}
-use mathlib.Core.Bool.{Bool, true, false, cond}
+use mathlib.Core.Bool.{false, cond}
 use mathlib.Core.List.{List, [], _∷_}
-use Prim.Native.Nat.{ℕ, _+_, _*_, _<_}
+use Prim.Native.Nat.{ℕ, _+_, _<_}
 use lib.ListN.{replicate}
 use lib.Ieee.{Float, lt, isNan}
 use Rattle.laws.specs.Floats.{_*f_, +0, one, two, at, absOf, maxOf}
-use Rattle.solver.specs.Solve.{standing, scaleOf, eliminatedOf, backIf}
+use Rattle.solver.specs.Solve.{scaleOf, underOf}
 use Rattle.solver.specs.declared.Solved.{Solved}
 use Rattle.cell.specs.declared.Face.{Face}
 use Rattle.cell.specs.declared.Line.{Line}
 use Rattle.cell.specs.declared.Normal.{Normal}
-use Rattle.cell.specs.declared.Point.{Point}
 use Rattle.cell.specs.Faces.{faceAt}
 use Rattle.polytope.specs.Polytope.{rowsOf}
-use Rattle.cell.specs.Cell.{Problem, problem, kktOf, rhsOf, widened}
+use Rattle.cell.specs.Cell.{Problem, problem, kktOf, rhsOf}
 
 -- ---- the block of all systems: twice the normal equations, each line with its right side behind
 
@@ -71,56 +69,4 @@ Scaled b scale = (t : ℕ) → 0 < t → t < 64 → scaleOf (3 + faceAt 3 7 t .s
 -- ---- the answer of a face's system under a limit of its pivots
 
 abbrev pub answerOf : List Float → List Float → List Float → Float → Face → Solved
-answerOf b g h limit f =
-    backIf (3 + f .size) (eliminatedOf (3 + f .size) limit (standing (kktOf (blockOf b) g 3 f) (rhsOf (sideOf b) h 3 f)))
-
--- a point is the first three unknowns of an answer, where there is one
-pub record Meets (r : Point) (s : Solved) : Type 0 where
-  pub ok : r .ok ≡ s .ok
-  pub x : r .ok ≡ true → r .x ≡ widened (s .x)
-
--- the three unknowns from place o on
-abbrev pub pointAt : ℕ → Bool → List Float → Point
-pointAt o ok y = record { x = at y o ∷ at y (o + 1) ∷ at y (o + 2) ∷ []; ok = ok }
-
--- ---- the systems in six rows of eight: columns, right side, and a place that is not used; the last rows and columns count
-
--- constraint c as a line
-abbrev pub constraintOf : List Float → List Float → ℕ → Line
-constraintOf g h c = record { lin = at h c; q0 = at g (c * 3); q1 = at g (c * 3 + 1); q2 = at g (c * 3 + 2) }
-
-abbrev pub noneIn : Normal → List Float
-noneIn n =
-    +0 ∷ +0 ∷ +0 ∷ +0 ∷ +0 ∷ +0 ∷ +0 ∷ +0
-    ∷ +0 ∷ +0 ∷ +0 ∷ +0 ∷ +0 ∷ +0 ∷ +0 ∷ +0
-    ∷ +0 ∷ +0 ∷ +0 ∷ +0 ∷ +0 ∷ +0 ∷ +0 ∷ +0
-    ∷ +0 ∷ +0 ∷ +0 ∷ n .a .q0 ∷ n .a .q1 ∷ n .a .q2 ∷ n .a .lin ∷ +0
-    ∷ +0 ∷ +0 ∷ +0 ∷ n .d .q0 ∷ n .d .q1 ∷ n .d .q2 ∷ n .d .lin ∷ +0
-    ∷ +0 ∷ +0 ∷ +0 ∷ n .c .q0 ∷ n .c .q1 ∷ n .c .q2 ∷ n .c .lin ∷ +0 ∷ []
-
-abbrev pub oneIn : Normal → Line → List Float
-oneIn n i =
-    +0 ∷ +0 ∷ +0 ∷ +0 ∷ +0 ∷ +0 ∷ +0 ∷ +0
-    ∷ +0 ∷ +0 ∷ +0 ∷ +0 ∷ +0 ∷ +0 ∷ +0 ∷ +0
-    ∷ +0 ∷ +0 ∷ n .a .q0 ∷ n .a .q1 ∷ n .a .q2 ∷ i .q0 ∷ n .a .lin ∷ +0
-    ∷ +0 ∷ +0 ∷ n .d .q0 ∷ n .d .q1 ∷ n .d .q2 ∷ i .q1 ∷ n .d .lin ∷ +0
-    ∷ +0 ∷ +0 ∷ n .c .q0 ∷ n .c .q1 ∷ n .c .q2 ∷ i .q2 ∷ n .c .lin ∷ +0
-    ∷ +0 ∷ +0 ∷ i .q0 ∷ i .q1 ∷ i .q2 ∷ +0 ∷ i .lin ∷ +0 ∷ []
-
-abbrev pub twoIn : Normal → Line → Line → List Float
-twoIn n i j =
-    +0 ∷ +0 ∷ +0 ∷ +0 ∷ +0 ∷ +0 ∷ +0 ∷ +0
-    ∷ +0 ∷ n .a .q0 ∷ n .a .q1 ∷ n .a .q2 ∷ i .q0 ∷ j .q0 ∷ n .a .lin ∷ +0
-    ∷ +0 ∷ n .d .q0 ∷ n .d .q1 ∷ n .d .q2 ∷ i .q1 ∷ j .q1 ∷ n .d .lin ∷ +0
-    ∷ +0 ∷ n .c .q0 ∷ n .c .q1 ∷ n .c .q2 ∷ i .q2 ∷ j .q2 ∷ n .c .lin ∷ +0
-    ∷ +0 ∷ i .q0 ∷ i .q1 ∷ i .q2 ∷ +0 ∷ +0 ∷ i .lin ∷ +0
-    ∷ +0 ∷ j .q0 ∷ j .q1 ∷ j .q2 ∷ +0 ∷ +0 ∷ j .lin ∷ +0 ∷ []
-
-abbrev pub threeIn : Normal → Line → Line → Line → List Float
-threeIn n i j k =
-    n .a .q0 ∷ n .a .q1 ∷ n .a .q2 ∷ i .q0 ∷ j .q0 ∷ k .q0 ∷ n .a .lin ∷ +0
-    ∷ n .d .q0 ∷ n .d .q1 ∷ n .d .q2 ∷ i .q1 ∷ j .q1 ∷ k .q1 ∷ n .d .lin ∷ +0
-    ∷ n .c .q0 ∷ n .c .q1 ∷ n .c .q2 ∷ i .q2 ∷ j .q2 ∷ k .q2 ∷ n .c .lin ∷ +0
-    ∷ i .q0 ∷ i .q1 ∷ i .q2 ∷ +0 ∷ +0 ∷ +0 ∷ i .lin ∷ +0
-    ∷ j .q0 ∷ j .q1 ∷ j .q2 ∷ +0 ∷ +0 ∷ +0 ∷ j .lin ∷ +0
-    ∷ k .q0 ∷ k .q1 ∷ k .q2 ∷ +0 ∷ +0 ∷ +0 ∷ k .lin ∷ +0 ∷ []
+answerOf b g h limit f = underOf (3 + f .size) (kktOf (blockOf b) g 3 f) (rhsOf (sideOf b) h 3 f) limit

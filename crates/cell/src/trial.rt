@@ -7,300 +7,124 @@ ghost use mathlib.Core.List.{List};
 ghost use Rattle.laws.specs.Choice.{unless};
 ghost use Rattle.cell.specs.Next.{Good};
 ghost use Rattle.polytope.specs.Polytope.{rowsOf};
-ghost use Rattle.cell.specs.Cell.{noTry, valuedOf, triedOf, pickOf};
-ghost use Rattle.cell.specs.Shared.{problemIn, answerOf, Meets, constraintOf, pointAt};
+ghost use Rattle.cell.specs.Cell.{slotOf, kktOf, rhsOf, noTry, valuedOf, triedOf, pickOf};
+ghost use Rattle.cell.specs.Shared.{blockOf, sideOf, problemIn, answerOf};
 use crate::Face;
-use crate::Line;
 use crate::Point;
 use crate::Tried;
+use solver::Solved;
 
-// Constraint c as a line of the system.
-fn constraint(g: &[f64; 21], h: &[f64; 7], c: usize) -> Line
-    requires { ⌜ c < 7 ⌝ }
-    ensures { λ r. ⌜ r ≡ constraintOf (now (g .entry)) (now (h .entry)) c ⌝ }
+// Constraint c as row and column r of the matrix.
+fn slot(m: &mut [f64; 36], g: &[f64; 21], c: usize, r: usize)
+    requires { ⌜ (c < 7) × (r < 6) ⌝ }
+    ensures { λ z. ⌜ now (m .exit) ≡ slotOf (now (g .entry)) 3 c r (now (m .entry)) ⌝ }
 {
-    let k = c * 3;
-    Line {
-        lin: h[c],
-        q0: g[k],
-        q1: g[k + 1],
-        q2: g[k + 2],
+    for j in 0..3 {
+        let v = g[c * 3 + j];
+        m[r * 6 + j] = v;
+        m[j * 6 + r] = v;
     }
 }
 
-// The point of an answer: its unknowns from place o on.
-fn point_at(x: &[f64; 6], o: usize, ok: bool) -> Point
-    requires { ⌜ o < 4 ⌝ }
-    ensures { λ r. ⌜ r ≡ pointAt o ok (now (x .entry)) ⌝ }
-{
-    Point {
-        x: [x[o], x[o + 1], x[o + 2]],
-        ok: ok,
-    }
-}
-
-// The systems of a face of no, one, two and three constraints, in the last rows and columns of six rows of eight, and their points.
-fn solve_none(b: &[f64; 12], g: &[f64; 21], h: &[f64; 7], limit: f64, f: Face) -> Point
-    requires { ⌜ Good 3 7 f × (f .size ≡ 0) ⌝ }
-    ensures { λ r. ⌜ Meets r (answerOf (now (b .entry)) (now (g .entry)) (now (h .entry)) limit f) ⌝ }
-{
-    let n = crate::least::lines(b);
-    let mut m = [
-        0.0,
-        0.0,
-        0.0,
-        0.0,
-        0.0,
-        0.0,
-        0.0,
-        0.0,
-        0.0,
-        0.0,
-        0.0,
-        0.0,
-        0.0,
-        0.0,
-        0.0,
-        0.0,
-        0.0,
-        0.0,
-        0.0,
-        0.0,
-        0.0,
-        0.0,
-        0.0,
-        0.0,
-        0.0,
-        0.0,
-        0.0,
-        n.a.q0,
-        n.a.q1,
-        n.a.q2,
-        n.a.lin,
-        0.0,
-        0.0,
-        0.0,
-        0.0,
-        n.d.q0,
-        n.d.q1,
-        n.d.q2,
-        n.d.lin,
-        0.0,
-        0.0,
-        0.0,
-        0.0,
-        n.c.q0,
-        n.c.q1,
-        n.c.q2,
-        n.c.lin,
-        0.0,
-    ];
-    let mut x = [0.0; 6];
-    let ok = solver::rows::solve_rows(&mut m, 3, limit, &mut x);
-    point_at(&x, 3, ok)
-}
-
-fn solve_one(b: &[f64; 12], g: &[f64; 21], h: &[f64; 7], limit: f64, f: Face) -> Point
-    requires { ⌜ Good 3 7 f × (f .size ≡ 1) ⌝ }
-    ensures { λ r. ⌜ Meets r (answerOf (now (b .entry)) (now (g .entry)) (now (h .entry)) limit f) ⌝ }
-{
-    let i = constraint(g, h, f.a);
-    let n = crate::least::lines(b);
-    let mut m = [
-        0.0,
-        0.0,
-        0.0,
-        0.0,
-        0.0,
-        0.0,
-        0.0,
-        0.0,
-        0.0,
-        0.0,
-        0.0,
-        0.0,
-        0.0,
-        0.0,
-        0.0,
-        0.0,
-        0.0,
-        0.0,
-        n.a.q0,
-        n.a.q1,
-        n.a.q2,
-        i.q0,
-        n.a.lin,
-        0.0,
-        0.0,
-        0.0,
-        n.d.q0,
-        n.d.q1,
-        n.d.q2,
-        i.q1,
-        n.d.lin,
-        0.0,
-        0.0,
-        0.0,
-        n.c.q0,
-        n.c.q1,
-        n.c.q2,
-        i.q2,
-        n.c.lin,
-        0.0,
-        0.0,
-        0.0,
-        i.q0,
-        i.q1,
-        i.q2,
-        0.0,
-        i.lin,
-        0.0,
-    ];
-    let mut x = [0.0; 6];
-    let ok = solver::rows::solve_rows(&mut m, 4, limit, &mut x);
-    point_at(&x, 2, ok)
-}
-
-fn solve_two(b: &[f64; 12], g: &[f64; 21], h: &[f64; 7], limit: f64, f: Face) -> Point
-    requires { ⌜ Good 3 7 f × (f .size ≡ 2) ⌝ }
-    ensures { λ r. ⌜ Meets r (answerOf (now (b .entry)) (now (g .entry)) (now (h .entry)) limit f) ⌝ }
-{
-    let i = constraint(g, h, f.a);
-    let j = constraint(g, h, f.b);
-    let n = crate::least::lines(b);
-    let mut m = [
-        0.0,
-        0.0,
-        0.0,
-        0.0,
-        0.0,
-        0.0,
-        0.0,
-        0.0,
-        0.0,
-        n.a.q0,
-        n.a.q1,
-        n.a.q2,
-        i.q0,
-        j.q0,
-        n.a.lin,
-        0.0,
-        0.0,
-        n.d.q0,
-        n.d.q1,
-        n.d.q2,
-        i.q1,
-        j.q1,
-        n.d.lin,
-        0.0,
-        0.0,
-        n.c.q0,
-        n.c.q1,
-        n.c.q2,
-        i.q2,
-        j.q2,
-        n.c.lin,
-        0.0,
-        0.0,
-        i.q0,
-        i.q1,
-        i.q2,
-        0.0,
-        0.0,
-        i.lin,
-        0.0,
-        0.0,
-        j.q0,
-        j.q1,
-        j.q2,
-        0.0,
-        0.0,
-        j.lin,
-        0.0,
-    ];
-    let mut x = [0.0; 6];
-    let ok = solver::rows::solve_rows(&mut m, 5, limit, &mut x);
-    point_at(&x, 1, ok)
-}
-
-fn solve_three(b: &[f64; 12], g: &[f64; 21], h: &[f64; 7], limit: f64, f: Face) -> Point
-    requires { ⌜ Good 3 7 f × (f .size ≡ 3) ⌝ }
-    ensures { λ r. ⌜ Meets r (answerOf (now (b .entry)) (now (g .entry)) (now (h .entry)) limit f) ⌝ }
-{
-    let i = constraint(g, h, f.a);
-    let j = constraint(g, h, f.b);
-    let k = constraint(g, h, f.c);
-    let n = crate::least::lines(b);
-    let mut m = [
-        n.a.q0,
-        n.a.q1,
-        n.a.q2,
-        i.q0,
-        j.q0,
-        k.q0,
-        n.a.lin,
-        0.0,
-        n.d.q0,
-        n.d.q1,
-        n.d.q2,
-        i.q1,
-        j.q1,
-        k.q1,
-        n.d.lin,
-        0.0,
-        n.c.q0,
-        n.c.q1,
-        n.c.q2,
-        i.q2,
-        j.q2,
-        k.q2,
-        n.c.lin,
-        0.0,
-        i.q0,
-        i.q1,
-        i.q2,
-        0.0,
-        0.0,
-        0.0,
-        i.lin,
-        0.0,
-        j.q0,
-        j.q1,
-        j.q2,
-        0.0,
-        0.0,
-        0.0,
-        j.lin,
-        0.0,
-        k.q0,
-        k.q1,
-        k.q2,
-        0.0,
-        0.0,
-        0.0,
-        k.lin,
-        0.0,
-    ];
-    let mut x = [0.0; 6];
-    let ok = solver::rows::solve_rows(&mut m, 6, limit, &mut x);
-    point_at(&x, 0, ok)
-}
-
-// The point of a face. Each size has a call of its own, so that its system is written to known places.
-fn solution(b: &[f64; 12], g: &[f64; 21], h: &[f64; 7], limit: f64, f: Face) -> Point
+// The matrix of a face: the block, and each constraint as a further row and column.
+fn kkt(b: &[f64; 12], g: &[f64; 21], f: Face) -> [f64; 36]
     requires { ⌜ Good 3 7 f ⌝ }
-    ensures { λ r. ⌜ Meets r (answerOf (now (b .entry)) (now (g .entry)) (now (h .entry)) limit f) ⌝ }
+    ensures { λ r. ⌜ r ≡ kktOf (blockOf (now (b .entry))) (now (g .entry)) 3 f ⌝ }
 {
+    let mut m = [
+        b[0],
+        b[1],
+        b[2],
+        0.0,
+        0.0,
+        0.0,
+        b[4],
+        b[5],
+        b[6],
+        0.0,
+        0.0,
+        0.0,
+        b[8],
+        b[9],
+        b[10],
+        0.0,
+        0.0,
+        0.0,
+        0.0,
+        0.0,
+        0.0,
+        0.0,
+        0.0,
+        0.0,
+        0.0,
+        0.0,
+        0.0,
+        0.0,
+        0.0,
+        0.0,
+        0.0,
+        0.0,
+        0.0,
+        0.0,
+        0.0,
+        0.0,
+    ];
+    if f.size == 0 {
+        return m;
+    }
+    slot(&mut m, g, f.a, 3);
+    if f.size == 1 {
+        return m;
+    }
+    slot(&mut m, g, f.b, 4);
+    if f.size == 2 {
+        return m;
+    }
+    slot(&mut m, g, f.c, 5);
+    m
+}
+
+// Its right side: that of the block, and the bound of each constraint.
+fn right(b: &[f64; 12], h: &[f64; 7], f: Face) -> [f64; 6]
+    requires { ⌜ Good 3 7 f ⌝ }
+    ensures { λ r. ⌜ r ≡ rhsOf (sideOf (now (b .entry))) (now (h .entry)) 3 f ⌝ }
+{
+    let mut t = [b[3], b[7], b[11], 0.0, 0.0, 0.0];
+    if f.size == 0 {
+        return t;
+    }
+    let i = f.a;
+    t[3] = h[i];
+    if f.size == 1 {
+        return t;
+    }
+    let j = f.b;
+    t[4] = h[j];
+    if f.size == 2 {
+        return t;
+    }
+    let k = f.c;
+    t[5] = h[k];
+    t
+}
+
+// The answer of a face's system. Each size has a call of its own, so that the compiler knows every place.
+fn solution(b: &[f64; 12], g: &[f64; 21], h: &[f64; 7], limit: f64, f: Face) -> Solved
+    requires { ⌜ Good 3 7 f ⌝ }
+    ensures { λ r. ⌜ r ≡ answerOf (now (b .entry)) (now (g .entry)) (now (h .entry)) limit f ⌝ }
+{
+    let m = kkt(b, g, f);
+    let rhs = right(b, h, f);
     if f.size == 3 {
-        return solve_three(b, g, h, limit, f);
+        return solver::solve_under(m, rhs, 6, limit);
     }
     if f.size == 2 {
-        return solve_two(b, g, h, limit, f);
+        return solver::solve_under(m, rhs, 5, limit);
     }
     if f.size == 1 {
-        return solve_one(b, g, h, limit, f);
+        return solver::solve_under(m, rhs, 4, limit);
     }
-    solve_none(b, g, h, limit, f)
+    solver::solve_under(m, rhs, 3, limit)
 }
 
 // The point of a face where it is solved and feasible.
@@ -317,8 +141,10 @@ pub(crate) fn candidate(
 {
     let s = solution(b, g, h, limit, f);
     if s.ok {
-        if polytope::feasible(h, &s.x, slack) {
-            return s;
+        let y = s.x;
+        let x = [y[0], y[1], y[2]];
+        if polytope::feasible(h, &x, slack) {
+            return Point { x: x, ok: true };
         }
     }
     Point {

@@ -1,3 +1,3 @@
--- What the solver's contracts cite. Rows, the way the code takes, is for lent room and inner functions alone.
+-- What the solver's contracts cite. Rows, the way the code takes, is for inner functions alone.
 pub mod Solve
 pub mod Rows

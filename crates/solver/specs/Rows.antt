@@ -1,9 +1,9 @@
--- The elimination as the code does it: six rows of eight numbers, in which a system of n unknowns stands in the last n rows and columns, with its right side in column 6 of each row;
--- column 7 is not used. No reader has to believe this: proofs/Same shows that its answers are those of Solve. What it leaves in lent room is said here alone. Definitions only.
-use mathlib.Core.Bool.{Bool, true, false, _&&_, cond}
+-- The elimination as the code does it. No reader has to believe this: no public contract cites it, and proofs/Same shows that its answers are those of Solve. Definitions only.
+-- Six rows of eight numbers, in which a system of n unknowns stands in the last n rows and columns, with its right side in column 6 of each row; column 7 is not used.
+use mathlib.Core.Bool.{Bool, true, false, cond}
 use mathlib.Core.List.{List}
 use Prim.Native.Nat.{ℕ, _+_, _-_, _*_}
-use lib.Dec.{leb, ltb}
+use lib.Dec.{leb}
 use lib.ListN.{set, replicate}
 use lib.Ieee.{Float, le, eq}
 use Rattle.laws.specs.Loop.{for}
@@ -76,13 +76,13 @@ backRowIn m row s = cond (s .ok) (room (finite (valueIn m (s .m) row)) (set (s .
 unfoldable pub backIn : ℕ → List Float → List Float → Room
 backIn n m x = for 0 n (λ k s. backRowIn m (5 - k) s) (room true x)
 
--- ---- the whole: what is left in the room of the rows, and in that of the unknowns; no size but 1 to 6 changes either
+-- ---- the whole: what is left in the room of the unknowns
 
-unfoldable pub leftIn : ℕ → Float → List Float → Room
-leftIn n limit m = unless (ltb 0 n && leb n 6) (room false m) (fromIn 0 n limit (room true m))
+abbrev pub backIfIn : ℕ → List Float → Room → Room
+backIfIn n x s = unless (s .ok) (room false x) (backIn n (s .m) x)
 
 unfoldable pub solvedIn : ℕ → Float → List Float → List Float → Room
-solvedIn n limit m x = unless (leftIn n limit m .ok) (room false x) (backIn n (leftIn n limit m .m) x)
+solvedIn n limit m x = backIfIn n x (fromIn 0 n limit (room true m))
 
 -- ---- a system of the 6 by 6 form put into the rows, and its unknowns taken out
 

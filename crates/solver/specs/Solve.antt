@@ -1,9 +1,9 @@
 -- `solve_linear` of calibrate.rs: Gaussian elimination with partial pivoting on the first n rows and columns of a 6 by 6 matrix, row by row in one list,
 -- and the substitution back. Every operation is rounded once, in the order written. Definitions only.
-use mathlib.Core.Bool.{Bool, true, false, _||_, cond}
+use mathlib.Core.Bool.{Bool, true, false, _&&_, _||_, cond}
 use mathlib.Core.List.{List}
 use Prim.Native.Nat.{ℕ, _+_, _-_, _*_}
-use lib.Dec.{leb}
+use lib.Dec.{leb, ltb}
 use lib.ListN.{set, replicate}
 use lib.Ieee.{Float, le, eq, isNan}
 use Rattle.laws.specs.Loop.{for}
@@ -116,6 +116,10 @@ backOf n m rhs = for 0 n (λ k t. backRowOf n m rhs (n - 1 - k) t) (record { ok 
 
 unfoldable pub backIf : ℕ → System → Solved
 backIf n s = unless (s .ok) refused (backOf n (s .m) (s .rhs))
+
+-- m x = rhs in n unknowns under a limit of the pivots; no size but 1 to 6 has an answer
+unfoldable pub underOf : ℕ → List Float → List Float → Float → Solved
+underOf n m rhs limit = unless (ltb 0 n && leb n 6) refused (backIf n (eliminatedOf n limit (standing m rhs)))
 
 unfoldable pub scaledOf : ℕ → List Float → List Float → Float → Float → Solved
 scaledOf n m rhs tol scale = unless (positive scale) refused (backIf n (eliminatedOf n (tol *f scale) (standing m rhs)))

@@ -1,13 +1,13 @@
 // Gaussian elimination with partial pivoting: `solve_linear` of calibrate.rs, for any size up to 6.
 // The matrix is 6 by 6, row by row, of which the first n rows and columns count.
-pub mod rows;
+mod rows;
 
 ghost use mathlib.Core.Path.{_≡_};
 ghost use Prim.Native.Nat.{_+_, _≤_, _<_};
 ghost use mathlib.Core.Bool.{false, cond};
 ghost use lib.Ieee.{isNan, lt};
 ghost use Rattle.laws.specs.Floats.{+0};
-ghost use Rattle.solver.specs.Solve.{rowScaleOf, scaleOf, solveOf};
+ghost use Rattle.solver.specs.Solve.{rowScaleOf, scaleOf, underOf, solveOf};
 ghost use Rattle.solver.specs.Rows.{placedRow, placedOf, firstOf};
 
 // The unknowns, and whether there is a solution; what is no unknown is 0. The six numbers come first: behind the bool they would be copied from an odd address.
@@ -103,7 +103,28 @@ fn first(x: &[f64; 6], n: usize) -> [f64; 6]
     r
 }
 
-// m x = rhs in n unknowns, or a refusal: n above 6, no positive finite scale, a pivot of at most tol times the scale, or a value that is not finite.
+// m x = rhs in n unknowns, or a refusal: a size other than 1 to 6, a pivot of at most the limit, or a value that is not finite.
+// Where a caller names the size, the compiler writes the system to its rows without a copy; `solve_rows`, which has two callers, stays one piece of code.
+pub fn solve_under(m: [f64; 36], rhs: [f64; 6], n: usize, limit: f64) -> Solved
+    ensures { λ r. ⌜ r ≡ underOf n m rhs limit ⌝ }
+{
+    if (0 < n) & (n <= 6) {
+        let mut t = place(&m, &rhs, n);
+        let mut x = [0.0; 6];
+        if rows::solve_rows(&mut t, n, limit, &mut x) {
+            return Solved {
+                x: first(&x, n),
+                ok: true,
+            };
+        }
+    }
+    Solved {
+        x: [0.0; 6],
+        ok: false,
+    }
+}
+
+// The same with a limit of tol times the scale. Refused are n above 6, no positive finite scale, a pivot of at most the limit, and a value that is not finite.
 pub fn solve(m: [f64; 36], rhs: [f64; 6], n: usize, tol: f64) -> Solved
     ensures { λ r. ⌜ r ≡ solveOf n m rhs tol ⌝ }
 {

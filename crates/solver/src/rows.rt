@@ -4,7 +4,7 @@ ghost use mathlib.Core.Path.{_≡_};
 ghost use mathlib.Core.Bool.{true};
 ghost use Prim.Native.Nat.{_≤_, _<_};
 ghost use Rattle.laws.specs.Floats.{_/f_};
-ghost use Rattle.solver.specs.Rows.{spot, room, pivotIn, swapIn, rowIn, clearIn, raisedIn, fromIn, tailIn, backRowIn, backIn, leftIn, solvedIn};
+ghost use Rattle.solver.specs.Rows.{spot, room, pivotIn, swapIn, rowIn, clearIn, raisedIn, fromIn, tailIn, backRowIn, backIn, solvedIn};
 
 // The row from `col` on with the largest magnitude in its column: the last of equal ones, and a NaN is above all.
 // Two jumps, each mostly one way, let the processor go on with the row that it expects.
@@ -216,16 +216,13 @@ fn back(m: &[f64; 48], n: usize, x: &mut [f64; 6]) -> bool
 }
 
 // The system of n unknowns in the last n rows and columns of m, its right side in column 6: its unknowns in the last n places of x, or false. A pivot of at most the limit refuses, and
-// so does an unknown that is not finite, or a size other than 1 to 6, which leaves both rooms as they were.
-pub fn solve_rows(m: &mut [f64; 48], n: usize, limit: f64, x: &mut [f64; 6]) -> bool
-    ensures { λ r. ⌜ r ≡ solvedIn n limit (now (m .entry)) (now (x .entry)) .ok ⌝ }
-    ensures { λ r. ⌜ now (m .exit) ≡ leftIn n limit (now (m .entry)) .m ⌝ }
-    ensures { λ r. ⌜ now (x .exit) ≡ solvedIn n limit (now (m .entry)) (now (x .entry)) .m ⌝ }
+// so does an unknown that is not finite.
+pub(crate) fn solve_rows(m: &mut [f64; 48], n: usize, limit: f64, x: &mut [f64; 6]) -> bool
+    requires { ⌜ (1 ≤ n) × (n ≤ 6) ⌝ }
+    ensures { λ r. ⌜ room r (now (x .exit)) ≡ solvedIn n limit (now (m .entry)) (now (x .entry)) ⌝ }
 {
-    if (0 < n) & (n <= 6) {
-        if from_0(m, n, limit) {
-            return back(m, n, x);
-        }
+    if from_0(m, n, limit) {
+        return back(m, n, x);
     }
     false
 }

@@ -1,16 +1,22 @@
 -- `solver::solve` meets its contract. Assumes nothing.
-use mathlib.Core.Path.{refl, sym, ap, ap₂, _∙_}
+use mathlib.Core.Path.{refl, sym, ap, _∙_}
 use mathlib.Core.Bool.{Bool, _&&_}
 use lib.Ieee.{lt}
 use borrow.Author.Needs.{needs}
 use borrow.Author.Tests.{lt-leb}
-use Rattle.laws.specs.Floats.{+0}
+use Rattle.laws.specs.Floats.{+0, _*f_}
 use Rattle.laws.proofs.Choices.{if-false}
 use Rattle.solver.specs.Solve.{solveOf}
-use Rattle.solver.specs.Rows.{room}
-use Rattle.solver.proofs.Whole.{unscaled, accepts, refuses}
+use Rattle.solver.proofs.Whole.{sized-by-scale, unscaled, scaled, accepts, refuses}
 use Rattle.solver.proofs.solve.Statement.{statement}
 use Rattle.solver.proofs.solve.Tie as tie
+
+solve-rows-requires : tie.Need-solve-rows-requires
+solve-rows-requires c κs =
+    let a = c .before .before .before .before .before .before .before .before .before .before .args in
+    let s = c .before .before .before .before .before .before .before .scale-of in
+    let test = ap (λ (b : Bool). b && lt +0 (s .result)) (sym (c .before .before .before .before .before .before .is-finite .ensures)) ∙ c .before .before .before .before .before .if2 .taken in
+    sized-by-scale (a .n) (a .t1) (s .result) (c .before .before .before .before .before .before .before .before .before .if1 .taken) (s .ensures) test
 
 returns : tie.Need-returns
 returns c =
@@ -18,9 +24,12 @@ returns c =
     let a = c .before .before .before .before .before .before .before .before .before .before .before .before .before .before .args in
     let s = c .before .before .before .before .before .before .before .before .before .before .before .scale-of in
     let r = c .before .before .before .solve-rows in
+    let p = c .before .before .before .before .before .before .laid in
+    let six = c .before .before .before .before .before .before .before .before .before .before .before .before .before .if1 .taken in
     let test = ap (λ (b : Bool). b && lt +0 (s .result)) (sym (c .before .before .before .before .before .before .before .before .before .before .is-finite .ensures)) ∙ c .before .before .before .before .before .before .before .before .before .if2 .taken in
-    accepts (a .n) (a .t1) (a .t2) (a .tol) (s .result) (c .before .before .before .before .before .before .before .before .before .before .before .before .before .if1 .taken) (g .0 .1 .0 .1) (g .1 .0 .1 .0 .1) (s .ensures) test
-    (c .before .before .before .before .before .before .laid .result) (r .last .1 .1 .1 .0) (c .first .result) (r .result) (c .before .before .before .before .before .before .laid .ensures) (ap₂ room (r .ensures .0) (r .ensures .1 .1)) (c .before .before .if3 .taken) (c .first .ensures)
+    accepts (a .n) (a .t1) (a .t2) (a .tol *f s .result) (sized-by-scale (a .n) (a .t1) (s .result) six (s .ensures) test) (g .0 .1 .0 .1) (g .1 .0 .1 .0 .1)
+    (p .result) (r .last .1 .1 .1 .0) (c .first .result) (r .result) (p .ensures) (r .ensures) (c .before .before .if3 .taken) (c .first .ensures)
+    ∙ scaled (a .n) (a .t1) (a .t2) (a .tol) (s .result) six (s .ensures) test
 
 returns-2 : tie.Need-returns-2
 returns-2 c =
@@ -28,9 +37,12 @@ returns-2 c =
     let a = c .before .before .before .before .before .before .before .before .before .before .before .before .args in
     let s = c .before .before .before .before .before .before .before .before .before .scale-of in
     let r = c .before .solve-rows in
+    let p = c .before .before .before .before .laid in
+    let six = c .before .before .before .before .before .before .before .before .before .before .before .if1 .taken in
     let test = ap (λ (b : Bool). b && lt +0 (s .result)) (sym (c .before .before .before .before .before .before .before .before .is-finite .ensures)) ∙ c .before .before .before .before .before .before .before .if2 .taken in
-    refuses (a .n) (a .t1) (a .t2) (a .tol) (s .result) (c .before .before .before .before .before .before .before .before .before .before .before .if1 .taken) (g .0 .1 .0 .1) (g .1 .0 .1 .0 .1) (s .ensures) test
-    (c .before .before .before .before .laid .result) (r .last .1 .1 .1 .0) (r .result) (c .before .before .before .before .laid .ensures) (ap₂ room (r .ensures .0) (r .ensures .1 .1)) (c .if3 .left)
+    refuses (a .n) (a .t1) (a .t2) (a .tol *f s .result) (sized-by-scale (a .n) (a .t1) (s .result) six (s .ensures) test) (g .0 .1 .0 .1) (g .1 .0 .1 .0 .1)
+    (p .result) (r .last .1 .1 .1 .0) (r .result) (p .ensures) (r .ensures) (c .if3 .left)
+    ∙ scaled (a .n) (a .t1) (a .t2) (a .tol) (s .result) six (s .ensures) test
 
 returns-3 : tie.Need-returns-3
 returns-3 c =
@@ -50,7 +62,7 @@ solve-spec =
     (λ c κs. search needs)
     (λ c κs. search needs)
     (λ c κs. search needs)
-    (λ c κs. search needs)
+    solve-rows-requires
     (λ c κs. search needs)
     returns
     returns-2

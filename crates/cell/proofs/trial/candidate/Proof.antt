@@ -4,8 +4,8 @@ use mathlib.Core.Bool.{true, false}
 use mathlib.Core.List.{List}
 use lib.Ieee.{Float}
 use borrow.Author.Needs.{needs}
-use Rattle.laws.proofs.Choices.{if-true}
 use Rattle.polytope.specs.Polytope.{feasibleOf}
+use Rattle.cell.specs.Cell.{widened}
 use Rattle.cell.proofs.Laws.{met, unmet}
 use Rattle.cell.proofs.trial.candidate.Statement.{statement}
 use Rattle.cell.proofs.trial.candidate.Tie as tie
@@ -14,14 +14,14 @@ returns : tie.Need-returns
 returns c =
     let a = c .before .before .before .before .before .before .args in
     let s = c .before .before .before .before .before .solution in
-    let w = ap (λ (g : List Float). feasibleOf g (a .h .now) 7 (a .slack) (s .result .x)) (c .before .before .before .before .before .before .pre .1) ∙ sym (c .before .feasible .ensures) ∙ c .if2 .taken in
-    λ (o : List Float → Float). if-true _ (c .before .before .before .before .if1 .taken) (met o (a .b .now) (a .g .now) (a .h .now) (a .limit) (a .slack) (a .f) (s .result) _ (s .ensures) (c .before .before .before .before .if1 .taken) true w)
+    let w = ap (λ (g : List Float). feasibleOf g (a .h .now) 7 (a .slack) (widened (s .result .x))) (c .before .before .before .before .before .before .pre .1) ∙ sym (c .before .feasible .ensures) ∙ c .if2 .taken in
+    λ (o : List Float → Float). met o (a .b .now) (a .g .now) (a .h .now) (a .limit) (a .slack) (a .f) (s .result) _ (s .ensures) (c .before .before .before .before .if1 .taken) true w
 
 returns-2 : tie.Need-returns-2
 returns-2 c =
     let a = c .before .before .before .before .before .before .args in
     let s = c .before .before .before .before .before .solution in
-    let w = ap (λ (g : List Float). feasibleOf g (a .h .now) 7 (a .slack) (s .result .x)) (c .before .before .before .before .before .before .pre .1) ∙ sym (c .before .feasible .ensures) ∙ c .if2 .left in
+    let w = ap (λ (g : List Float). feasibleOf g (a .h .now) 7 (a .slack) (widened (s .result .x))) (c .before .before .before .before .before .before .pre .1) ∙ sym (c .before .feasible .ensures) ∙ c .if2 .left in
     λ (o : List Float → Float). met o (a .b .now) (a .g .now) (a .h .now) (a .limit) (a .slack) (a .f) (s .result) _ (s .ensures) (c .before .before .before .before .if1 .taken) false w
 
 returns-3 : tie.Need-returns-3
@@ -35,6 +35,9 @@ candidate-spec =
     tie.close
     (tie.spec
     (λ c κs. search needs)
+    (λ c. search needs)
+    (λ c. search needs)
+    (λ c. search needs)
     (λ c κs. search needs)
     returns
     returns-2

@@ -1,0 +1,46 @@
+-- `solver::solve_under` meets its contract. Assumes nothing.
+use mathlib.Core.Path.{refl}
+use Rattle.laws.proofs.Choices.{if-true, if-false}
+use Rattle.solver.specs.Solve.{refused, underOf}
+use Rattle.solver.proofs.Whole.{sized, accepts, refuses}
+use Rattle.solver.proofs.solve_under.Statement.{statement}
+use Rattle.solver.proofs.solve_under.Tie as tie
+
+returns : tie.Need-returns
+unfolding underOf
+returns c =
+    let g = c .before .before .before .before .before .before .before .before .before .before .good in
+    let a = c .before .before .before .before .before .before .before .before .before .before .args in
+    let r = c .before .before .before .solve-rows in
+    let p = c .before .before .before .before .before .before .place in
+    let test = c .before .before .before .before .before .before .before .before .before .if1 .taken in
+    if-true refused test
+    (accepts (a .n) (a .t1) (a .t2) (a .limit) (sized (a .n) test) (g .0 .1 .0 .1) (g .1 .0 .1 .0 .1)
+    (p .result) (r .last .1 .1 .1 .0) (c .first .result) (r .result) (p .ensures) (r .ensures) (c .before .before .if2 .taken) (c .first .ensures))
+
+returns-2 : tie.Need-returns-2
+unfolding underOf
+returns-2 c =
+    let g = c .before .before .before .before .before .before .before .before .good in
+    let a = c .before .before .before .before .before .before .before .before .args in
+    let r = c .before .solve-rows in
+    let p = c .before .before .before .before .place in
+    let test = c .before .before .before .before .before .before .before .if1 .taken in
+    if-true refused test
+    (refuses (a .n) (a .t1) (a .t2) (a .limit) (sized (a .n) test) (g .0 .1 .0 .1) (g .1 .0 .1 .0 .1)
+    (p .result) (r .last .1 .1 .1 .0) (r .result) (p .ensures) (r .ensures) (c .if2 .left))
+
+returns-3 : tie.Need-returns-3
+unfolding underOf
+returns-3 c = if-false _ (c .if1 .left) refl
+
+pub solve-under-spec : {M : Type 1} → statement M
+solve-under-spec =
+    tie.close
+    (tie.spec
+    (λ c κs. sized _ (c .before .before .if1 .taken) .1)
+    (λ c κs. sized _ (c .before .before .before .before .before .if1 .taken))
+    (λ c κs. sized _ (c .before .before .before .before .before .before .before .before .if1 .taken) .1)
+    returns
+    returns-2
+    returns-3)
