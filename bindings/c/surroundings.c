@@ -8,7 +8,23 @@
 #include <fenv.h>
 #include <math.h>
 #include <string.h>
+
+/* The word by which the processor rounds, without its marks of past exceptions, and the bits of it that flush subnormal numbers to 0. */
+#if defined(__x86_64__)
 #include <xmmintrin.h>
+enum { FLUSH = 0x8040 };
+static unsigned get_word(void) { return _mm_getcsr() & ~0x3fu; }
+static void set_word(unsigned word) { _mm_setcsr(word); }
+#elif defined(__aarch64__)
+enum { FLUSH = 1 << 24 };
+static unsigned get_word(void)
+{
+    uint64_t word;
+    __asm__ volatile("mrs %0, fpcr" : "=r"(word));
+    return (unsigned)word;
+}
+static void set_word(unsigned word) { __asm__ volatile("msr fpcr, %0" : : "r"((uint64_t)word)); }
+#endif
 
 /* some answers, as bits */
 static uint64_t answers(void)
@@ -24,8 +40,8 @@ static uint64_t answers(void)
 int main(void)
 {
     uint64_t usual = answers();
-    unsigned word = _mm_getcsr() & ~0x3fu; /* all but the marks of past exceptions */
-    EXPECT(fegetround() == FE_TONEAREST && (_mm_getcsr() & ~0x3fu) == word);
+    unsigned word = get_word();
+    EXPECT(fegetround() == FE_TONEAREST && get_word() == word);
     static const int ways[] = {FE_UPWARD, FE_DOWNWARD, FE_TOWARDZERO};
     for (int i = 0; i < 3; i++) {
         EXPECT(fesetround(ways[i]) == 0);
@@ -34,11 +50,11 @@ int main(void)
         fesetround(FE_TONEAREST);
         EXPECT(answers() == usual);
     }
-    _mm_setcsr(word | 0x8040); /* flush to zero, and read subnormals as zero */
+    set_word(word | FLUSH);
     EXPECT(answers() != usual);
-    EXPECT((_mm_getcsr() & ~0x3fu) == (word | 0x8040));
-    _mm_setcsr(word);
-    EXPECT(answers() == usual && (_mm_getcsr() & ~0x3fu) == word);
+    EXPECT(get_word() == (word | FLUSH));
+    set_word(word);
+    EXPECT(answers() == usual && get_word() == word);
     printf("%d passed, %d failed\n", passed, failed);
     return failed != 0;
 }

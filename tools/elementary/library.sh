@@ -1,6 +1,6 @@
 #!/bin/sh
 # The port's ln and exp as a shared library, target/elementary/libport.so, for the scripts beside this one. Run it in the repository's root.
 set -e
-rt staticlib port
+folder=$(tools/library)
 mkdir -p target/elementary
-cc -shared -o target/elementary/libport.so -Wl,--whole-archive target/staticlib/libport.a -Wl,--no-whole-archive
+cc -shared -o target/elementary/libport.so -Wl,--whole-archive "$folder/libport.a" -Wl,--no-whole-archive

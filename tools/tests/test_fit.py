@@ -23,6 +23,8 @@ class Fit(Case):
         os.makedirs(os.path.join(self.root, "crates", "fit"))
         os.makedirs(os.path.join(self.folder, "bin"))
         shutil.copy(FIT, self.root)
+        os.mkdir(os.path.join(self.root, "tools"))
+        shutil.copy(os.path.join(os.path.dirname(FIT), "tools", "library"), os.path.join(self.root, "tools"))
         self.put("repository/crates.txt", "fit:\n")
         self.script("bin/rt", RT)
         self.put("answer.txt", answer_to(SIX))

@@ -11,9 +11,9 @@ import unittest
 import answer as answers
 import housefile
 import marks
-from support import ROOT, SAMPLES, Case, expiry, records, settings
+from machine import PROGRAM
+from support import SAMPLES, Case, expiry, records, settings
 
-PROGRAM = os.environ.get("KESUPAYRO_FIT") or os.path.join(ROOT, "target", "bin", "fit")
 TABLE = re.compile(r"\| `([a-z-]+\.house)` \| .* \| (fitted|refused (\d+)) \|")
 
 

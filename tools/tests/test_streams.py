@@ -16,9 +16,9 @@ import time
 import unittest
 
 import answer as answers
+from machine import PROGRAM
 from support import FIT, ROOT, Case
 
-PROGRAM = os.environ.get("KESUPAYRO_FIT") or os.path.join(ROOT, "target", "bin", "fit")
 DATA = os.path.join(ROOT, "crates", "vectors", "data")
 MALFORMED = b"refused 43 0 0\n"
 LARGEST = 8300  # bytes of the largest well-formed file
@@ -238,14 +238,17 @@ class Wrapper(Case):
         os.makedirs(os.path.join(self.root, "crates"))
         os.makedirs(os.path.join(self.root, "target", "bin"))
         self.put("repository/crates.txt", "fit:\n")
+        os.mkdir(os.path.join(self.root, "tools"))
         shutil.copy(FIT, self.root)
+        shutil.copy(os.path.join(ROOT, "tools", "library"), os.path.join(self.root, "tools"))
         shutil.copy(PROGRAM, os.path.join(self.root, "target", "bin", "fit"))
         self.put("repository/target/fit.built", "")
         self.put("day.house", ACCEPTED)
 
     def fit(self, *args, **streams):
         streams = {"stdin": subprocess.DEVNULL, "stdout": subprocess.PIPE, "stderr": subprocess.PIPE, **streams}
-        done = subprocess.run(["repository/fit", *args], cwd=self.folder, check=False, timeout=60, **streams)
+        # no rt: what stands there is run as it is
+        done = subprocess.run(["repository/fit", *args], cwd=self.folder, env={"PATH": "/usr/bin:/bin"}, check=False, timeout=60, **streams)
         return done.returncode, done.stdout, done.stderr
 
     def test_whole(self):
