@@ -222,8 +222,14 @@ class Held:
         """The first count things turn into these."""
         self.things[:count] = things
 
+    def note(self):
+        """What is held, as a comment."""
+        return f"-- [{'; '.join('…' if thing.startswith(ROOM) else thing for thing in self.things)}]"
+
 
 # ---- the parts of a proof
+
+ROOM = "the room of "
 
 USES = """\
 use mathlib.Core.Path.{_≡_, refl, ap, _∙_}
@@ -429,7 +435,7 @@ def exits(w):
     held.things.remove("tokens")
     steps += owns(w, held, "s")
     if w.room:
-        fact = f"Said (runOf (s .now)) r l"
+        fact = "Said (runOf (s .now)) r l"
     said_ = f"""\
   -- the two clauses of the contract, at a run, a result and what was written
   abbrev Said : Run → {w.result.name} → List Float → Type 0
@@ -477,7 +483,7 @@ def walk(w):
         held.become(1, a.name, f"{a.name} for the call")
     enter += held.bring("token", "s") + ("\n        " if w.read else "")
     for local in locals_:
-        held.become(0, local, f"the room of {local}")
+        held.become(0, local, ROOM + local)
     passes = "".join(f"pass1 ! (init ! {held.at(cells[a.name])} refl ({a.lawful} .typed {a.name} _ is-{a.name} .0)) $ " for a in w.arguments)
     alloc = "".join(f"alloc1 ! (λ l{i}. " for i in range(len(locals_)))
     first = f"pass1 ! (init ! {held.at('_1')} refl (shr-slice-lawful 𝓤 H A W (named 0) κ S.the-row .typed s (lentVal s ∷ []) p .0)) $"
@@ -486,7 +492,7 @@ def walk(w):
     copied = held.bring("token", "s") + f"copies ! mem run fm known-copied κ q s {operands(held, ['_1'])} (λ r u e is."
     held.become(0, "the run")
     opened += 1
-    landed = f"land ! (from ! (stop !)) (init ! {held.at(run)} refl (LL.lawful R.the-type R′.the-laws 𝓤 H A W .typed r _ is .0)) $"
+    landed = held.note() + f"\n        land ! (from ! (stop !)) (init ! {held.at(run)} refl (LL.lawful R.the-type R′.the-laws 𝓤 H A W .typed r _ is .0)) $"
 
     # a `&mut` is lent on: its address, then the slice at that address
     lends = ""
@@ -519,17 +525,17 @@ def walk(w):
 
     # the return
     where = held.at("_0")
-    returned = f"land ! (from ! (stop !)) (init ! {where} refl ({w.result.lawful} .typed y _ is′ .0)) $\n        returns ! (look ! {where} refl) $ "
+    returned = held.note() + f"\n        land ! (from ! (stop !)) (init ! {where} refl ({w.result.lawful} .typed y _ is′ .0)) $\n        returns ! (look ! {where} refl) $ "
     returned += "".join(f"forget ! {held.at(local)} refl $ " for local in reversed(locals_)) + "\n        "
     for local in locals_:
-        returned += held.bring(local, f"the room of {local}") + "free1 ! $ "
+        returned += held.bring(local, ROOM + local) + "free1 ! $ "
         held.become(2)
-    back = ""
+    back, note = "", held.note()
     if w.lents and not w.room:
         back += held.bring("tokens") + f"use1 W ({' ⊛ '.join([*(a.token for a in w.lents), '‵ ftrue'])}) (id⊢ 𝓤 _) $ "
     if w.lents:
         back += held.apart("tokens", [token_of(a) for a in w.lents], "the rest", "split")
-        back = "\n        " + back + held.keep("result", *left(w))
+        back = f"\n        {note}\n        {back}" + held.keep("result", *left(w))
     along = [f"∙ ap (λ (z : Run). {said(d, w, 'z')}) e" for d in [w.answer] + ([w.room] if w.room else [])]
     fact = f"{written_list(w)} same (e′ .0 {along[0]}, e′ .1 {along[1]})" if w.room else f"(e′ {along[0]})"
 
@@ -542,11 +548,9 @@ enter ! C Λ code.function ({values}) _ $
         {alloc}alloc0 ! $ params1 ! $ {first}
         {passes}pass0 ! $
         {copied}
-        -- [what the run owns; the token; what s owns; room for the run; …; the arguments, the last first; …; s; …; room for the result; …]
         {landed}{lends}
         {gives}
         {call}
-        -- [the result; the token; what s owns; ..]
         {returned}free0 ! ${back}
         by ! (exits y u′ {fact}){')' * opened}
 """
@@ -576,7 +580,7 @@ calls-at ! fm (Does 𝓤 H A mem run) known-does (to-does r u)
         use1 W (later (some (λ (y : {w.result.name}). (({alive}) ⊛ ‵ ({w.result.row} .own y (u′ ∷ []))) ⊛ raw (ensured 𝓤 H A does.ended (does.clauses 𝓤 H A mem run) {ghost} tt y)))) (id⊢ 𝓤 _) $ await ! tt $ pick ! (λ y.
         split ! $ move ! (1 ∷ []) $ use1 W (some (λ (ws : {last}). ‵ (lasts does.ended {ghost} ws) ⊛ raw (fact 𝓤 {fact}))) (id⊢ 𝓤 _) $ pick ! (λ ws.
         split ! $ move ! (1 ∷ []) $ heard ! {fact} (λ e′. {drops}fsplit ! $ fsplit ! $ move ! (1 ∷ []) $ feqL ! (λ same.
-        -- [what was written; true; the tokens and the result; ..]
+        -- [what was written; true; the tokens and the result; and so on]
         move ! (2 ∷ []) $ split ! $ move ! (1 ∷ []) $ peeks ! {w.result.row} (Is {w.result.row}) (shows 𝓤 H A {w.result.row}) y (u′ ∷ []) (λ is′.""", 6
 
 
@@ -615,9 +619,11 @@ unfolding code.routine tablesOf
 
 
 def head(w):
+    others = ", with the other arguments," if w.arguments else ""
+    room = "".join(f" `{a.name}` is not used after the call, so it goes to the callee at its own lifetime and name (`gave-slice`)." for a in w.written)
     return f"""\
--- `{w.crate}::{w.function.replace('.', '::')}` meets its contract: a walk of its MIR, by hand. The lent run is handed to `copied`, and the copy that comes back, with the other arguments, to `{w.calls[1].split('.')[-1]}`.
--- All that the proof knows of the two is that each meets its contract. Written by tools/walk.py from the table of arguments.
+-- `{w.crate}::{w.function.replace('.', '::')}` meets its contract: a walk of its MIR. The lent run is handed to `copied`, and the copy that comes back{others} to `{w.calls[1].split('.')[-1]}`.{room}
+-- All that the proof knows of the two is that each meets its contract. Written by tools/walk.py from its table.
 -- Assumes nothing.
 """
 
@@ -642,10 +648,16 @@ TABLE = [
     Walk("surface", "bracket", ("surface", "answers.bracket_run"), POINT, Definition("surface", "Surface", "bracketRun"), enum("surface", "types.Bracket", "B")),
     Walk("surface", "region", ("surface", "answers.region_run"), POINT, Definition("surface", "Surface", "regionRun"), enum("surface", "types.Region", "B")),
     Walk("surface", "total_variance", ("surface", "answers.total_variance_run"), POINT, Definition("surface", "Surface", "totalRun"), enum("point", "Total", "B")),
+    Walk("surface", "covers_nodes", ("surface", "answers.covers_run"), NODES, Definition("surface", "Surface", "coversRun"), enum("surface", "types.Covered", "B")),
+    Walk("diagnostics", "diagnose", ("diagnostics", "report.diagnose_run"), [of_type("policy", POLICY), *NODES, of_type("config", CONFIG), lent_to_write("room")],
+         Definition("diagnostics", "Diagnostics", "diagnoseOf", " .answer"), enum("diagnostics", "report.Diagnosed", "B"), Definition("diagnostics", "Diagnostics", "diagnoseOf", " .room")),
     Walk("port", "surfaces.port_surface", ("surface", "run.check_run"), [], Definition("surface", "Runs", "checkRun"), U32),
     Walk("port", "surfaces.port_bracket", ("port", "answers.bracket_of"), PORT_POINT, Definition("port", "Answers", "bracketFor"), struct("port", "answers.BracketAnswer", "B")),
     Walk("port", "surfaces.port_region", ("port", "answers.region_of"), PORT_POINT, Definition("port", "Answers", "regionFor"), struct("port", "answers.RegionAnswer", "B")),
     Walk("port", "surfaces.port_total_variance", ("port", "answers.total_of"), PORT_POINT, Definition("port", "Answers", "totalFor"), struct("port", "answers.TotalAnswer", "B")),
+    Walk("port", "surfaces.port_covers_nodes", ("port", "answers.covers_of"), NODES, Definition("port", "Answers", "coversFor"), struct("port", "answers.CoversAnswer", "B")),
+    Walk("port", "surfaces.port_diagnose", ("port", "answers.diagnose_of"), [integer("policy"), *NODES, of_type("config", CONFIG), lent_to_write("room")],
+         Definition("port", "Answers", "diagnosedFor"), struct("port", "answers.DiagnosedAnswer", "B"), Definition("port", "Answers", "roomFor")),
 ]
 
 
