@@ -9,9 +9,11 @@ Such a function copies the run and hands the copy, with its other arguments, to 
     pub fn F(slices: &[SviSlice], policy: u32, ks: &[f64], .., room: &mut [f64]) -> R { DOES(copied(slices), policy, ks, .., room) }
 
 Each proof is a walk of the function's MIR, and all have one shape. To add a function, add a line to TABLE: where it stands, what it
-calls, the definition that its contract names, its arguments in order (one of `integer`, `real`, `of_type`, `lent`, `lent_to_write`) and
-the type of its result. A walk holds a list of things (what each argument owns, the tokens of the lifetimes, the cells of the locals) and a
-step names a thing by its place in the list; class Held keeps the list, so that no place is counted by hand.
+calls, its arguments in order (each `integer`, `real`, `of_type`, `lent` or, once at most, `lent_to_write`), the definition that its contract
+names, the type of its result, and the definition of what it writes into what was lent for that.
+
+A walk holds a list of things (what each argument owns, the tokens of the lifetimes, the cells of the locals), and a step names a thing by
+its place in the list; class Held keeps the list, so that no place is counted by hand.
 """
 import os
 import re
@@ -128,7 +130,7 @@ class Walk:
         self.written = [a for a in self.lents if a.written]
         if len(self.written) != (1 if room else 0):
             raise SystemExit(f"walk: {function}: one definition of what is written for one `&mut [f64]`, and no more than one")
-        clash = {a.name for a in self.arguments} & set("s r u e is y z a at l q κ u′ e′ is′ ws W H A C M".split())
+        clash = {a.name for a in self.arguments} & set("s p r u e is y z a at l q ws run mem fm lent same".split())
         if clash:
             raise SystemExit(f"walk: {function}: the proof has its own {clash.pop()}")
 

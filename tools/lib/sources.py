@@ -13,7 +13,7 @@ ITEM = re.compile(
     r"(?P<visible>pub(?:\([^)]*\))?\s+)?(?:"
     r"mod\s+(?P<module>\w+)\s*(?P<inline>[;{])"
     r"|impl\b(?P<impl>[^{;]*)\{"
-    r"|(?P<kind>struct|enum|const|static|type|trait)\s+(?P<declared>\w+)"
+    r"|(?P<kind>struct|enum|const|static|type|trait)\s+(?!fn\b|unsafe\b|extern\b)(?P<declared>\w+)"
     r"|(?P<how>(?:(?:const|unsafe|extern\s+\"[^\"]*\")\s+)*)fn\s+(?P<function>\w+)"
     r")"
 )

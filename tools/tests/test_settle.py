@@ -85,6 +85,9 @@ class Settle(Case):
         self.settle()
         self.assertEqual(self.settle("--check"), (1, ["settle: a::bare has no contract", "settle: 1 public functions in 1 crates"]))
 
+    def test_const_functions_and_constants(self):
+        self.assertEqual(self.settled({"lib.rt": "pub const N: [u64; 2] = [1, 2];\n" + function("f", "pub const fn")}), ["f"])
+
     def test_brackets_in_quotes_and_comments(self):
         text = "// pub fn { not this (\npub fn one(x: u64) -> u64\n    ensures { λ r. ⌜ r ≡ size \"}\" ⌝ }\n{\n    let c = b'{';\n    x // }\n}\n" + function("two")
         self.assertEqual(self.settled({"lib.rt": text}), ["one", "two"])

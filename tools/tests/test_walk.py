@@ -54,3 +54,11 @@ class Walk(Case):
         self.assertEqual((held.apart("b", ["x", "y"], "rest", "split"), held.things), ("move ! (2 ∷ []) $ split ! $ move ! (1 ∷ []) $ split ! $ ", ["y", "rest", "x", "c", "a"]))
         self.assertEqual((held.gather(["x", "y"], "both"), held.things), ("move ! (2 ∷ 0 ∷ []) $ join ! $ ", ["both", "rest", "c", "a"]))
         self.assertEqual((held.keep("c", "both"), held.things), ("keep ! (2 ∷ 0 ∷ []) $ ", ["c", "both"]))
+
+    def test_a_line_of_the_table_that_does_not_fit(self):
+        walk = program("walk.py")
+        answer = walk.Definition("a", "Answers", "answerOf")
+        with self.assertRaisesRegex(SystemExit, "one definition of what is written"):
+            walk.Walk("a", "f", ("a", "g"), [walk.lent_to_write("room")], answer, walk.U32)
+        with self.assertRaisesRegex(SystemExit, "the proof has its own r"):
+            walk.Walk("a", "f", ("a", "g"), [walk.real("r")], answer, walk.U32)
