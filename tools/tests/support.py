@@ -18,14 +18,18 @@ FIT = os.path.join(ROOT, "fit")
 SAMPLES = os.path.join(ROOT, "samples")
 
 
-def house_module(loaded=[]):
-    """The program tools/house as a module, loaded once."""
-    if not loaded:
-        loader = importlib.machinery.SourceFileLoader("house_program", HOUSE)
-        module = importlib.util.module_from_spec(importlib.util.spec_from_loader("house_program", loader))
+def program(name, loaded={}):
+    """The program tools/NAME as a module, loaded once."""
+    if name not in loaded:
+        loader = importlib.machinery.SourceFileLoader(f"{name}_program", os.path.join(ROOT, "tools", name))
+        module = importlib.util.module_from_spec(importlib.util.spec_from_loader(loader.name, loader))
         loader.exec_module(module)
-        loaded.append(module)
-    return loaded[0]
+        loaded[name] = module
+    return loaded[name]
+
+
+def house_module():
+    return program("house")
 
 
 NO_SETTINGS = struct.pack("<I", 0)
