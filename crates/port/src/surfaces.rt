@@ -154,7 +154,7 @@ pub extern "C" fn port_diagnose(
 pub extern "C" fn port_check_record(check: &mut Check, point: DiagnosticPoint, tolerance: f64)
     ensures { λ _. ⌜ now (check .exit) ≡ recordedOf (now (check .entry)) point tolerance ⌝ }
 {
-    *check = Check::recorded(*check, point, tolerance);
+    check.record(point, tolerance);
 }
 
 #[no_mangle]
