@@ -5,8 +5,8 @@
  * blocks, or keeps a pointer; nothing is kept between calls, so threads need no lock. 256 KiB of stack are enough.
  *
  * What a caller vouches for, and this is the whole list:
- *   - a pointer with its count points to that many values, which may be read (and written, where it is not const); one without a count
- *     to the one value or array that the declaration names. It is not NULL, even where the count is 0;
+ *   - a pointer with its count points to that many values, which may be read (and written, where it is not const), and may be NULL where the
+ *     count is 0; one without a count points to the one value or array that the declaration names;
  *   - a pointer is aligned as its type asks, and a bool that is passed in holds 0 or 1, as C and C++ themselves see to;
  *   - a buffer that is written is lent once: it shares no byte with another buffer of the call, and no other thread touches it meanwhile;
  *   - floating-point arithmetic of the calling thread is as a program starts with: it rounds to nearest, keeps subnormal numbers and traps nothing. Linking
@@ -136,7 +136,7 @@ typedef struct {
 } PortRangeAnswer;
 
 typedef struct {
-    uint32_t number; /* 0 or 22 to 28 */
+    uint32_t number; /* 0 or 21 to 28 */
     PortSviSlice slice;
 } PortSliceAnswer;
 

@@ -476,11 +476,9 @@ static void lengths(void)
     passed++;
 }
 
-/* ---- beyond what the header promises: told, and tried, so that a change shows */
-
-static void beyond(void)
+/* NULL where the count is 0 is an empty run */
+static void nulls(void)
 {
-    /* NULL where the count is 0 */
     PortFitConfig c = port_default_config();
     uint8_t out[32];
     PortDiagnosticsConfig config = {0, 0};
@@ -490,8 +488,20 @@ static void beyond(void)
     EXPECT(port_region(NULL, 0, 0, 0, 1).number == PORT_TWO_SLICES && port_total_variance(NULL, 0, 0, 0, 1).number == PORT_TWO_SLICES);
     EXPECT(port_covers_nodes(NULL, 0, NULL, 0, NULL, 0).number == PORT_TWO_SLICES);
     EXPECT(port_diagnose(NULL, 0, 0, NULL, 0, NULL, 0, config, NULL, 0).number == PORT_TWO_SLICES);
+    PortSviSlice two[2] = {{1, 0.25, 0.5, 0, 0, 3, {-1, 1}}, {2, 0.5, 0.5, 0, 0, 3, {-1, 1}}};
+    double one = 1;
+    EXPECT(port_covers_nodes(two, 2, NULL, 0, NULL, 0).number == PORT_K_AXIS && port_covers_nodes(two, 2, &one, 1, NULL, 0).number == PORT_TAU_AXIS);
+    EXPECT(port_diagnose(two, 2, 0, NULL, 0, NULL, 0, config, NULL, 0).number == PORT_K_AXIS);
+    EXPECT(port_diagnose(two, 2, 0, &one, 1, &one, 1, config, NULL, 0).number == PORT_LENGTHS);
     PortLimits limits = {0, 0, 0, 0};
     EXPECT(port_cell(NULL, 0, NULL, 0, NULL, 0, limits, 0, 1).faces > 0);
+}
+
+/* ---- beyond what the header promises: told, and tried, so that a change shows */
+
+static void beyond(void)
+{
+    PortFitConfig c = port_default_config();
     /* counts beyond all memory, refused before a value is read */
     double *one = buffer(8);
     *one = 1;
@@ -523,6 +533,7 @@ int main(int count, char **names)
     inside();
     lengths();
     files(count, names);
+    nulls();
     beyond();
     printf("%d passed, %d failed\n", passed, failed);
     return failed != 0;

@@ -76,7 +76,7 @@ pub struct Values {
 }
 
 impl SviSlice {
-    /// A slice that passed its tests (22 to 28).
+    /// A slice that passed its tests (21 to 28: the k range is tested too, since its fields are public).
     pub fn new(tau: f64, a: f64, b: f64, rho: f64, m: f64, sigma: f64, k_range: KRange) -> Result<Self, Refusal> {
         // SAFETY: by value.
         let r = unsafe { c::port_slice(tau, a, b, rho, m, sigma, k_range) };
