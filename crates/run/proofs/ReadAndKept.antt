@@ -66,7 +66,7 @@ module _ (s : List ℕ) (v n : ℕ) (e : File v n ≡ houseOf s) where
   pub over-a-size : sizesHold n (configOf s v) ≡ false → answerOf s ≡ readLine n n ++ refusedLine 11 0 0
   over-a-size h = by-number 11 (number-11 h)
 
-  -- no size is passed, and an observation fails check 10: the whole answer is `read n kept n` and `refused 10 0 0`
+  -- no size is exceeded, and an observation fails check 10: the whole answer is `read n kept n` and `refused 10 0 0`
   pub bad-observation : sizesHold n (configOf s v) ≡ true → allPass (recordsAt s v n) ≡ false → answerOf s ≡ readLine n n ++ refusedLine 10 0 0
   bad-observation h k = by-number 10 (number-10 h k)
 
