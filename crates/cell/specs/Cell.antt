@@ -96,10 +96,11 @@ chosenOf o p count = chosenFrom o p count (tryOf o p (faceAt (p .u) (p .n) 0))
 
 -- ---- the cell
 
--- the fit: unknowns a, d, c; seven constraints; the 64 sets of at most three of them
+-- the fit: unknowns a, d, c; seven constraints; the 64 sets of at most three of them. The one model that contracts name
 abbrev pub fitModel : Model
 fitModel = record { u = 3; n = 7; faces = 64 }
 
+-- the problem of a cell: a model gives its sizes only; block, rows and bounds are those of a, d and c whatever the model, so one with other unknowns needs a problem of its own
 unfoldable pub problemOf : Model → Normal → Float → Limits → Problem
 problemOf k n sigma l =
     let h = boundsOf sigma (l .«a_min») (l .«a_max») in

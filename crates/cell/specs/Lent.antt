@@ -1,4 +1,5 @@
--- A cell whose rows y and h are worked out in lent room. Where the room holds 256 numbers it is the cell of `inner` (proofs/Laws.antt, `inner-lent`). Definitions only.
+-- A cell whose rows y and h are worked out in lent room: the contract of the public `inner_on` cites this, so who calls it has to believe it.
+-- In room for 256 numbers it is the cell of `inner` (proofs/Laws, `inner-lent`). Definitions only.
 use mathlib.Core.List.{List}
 use lib.ListN.{length}
 use lib.Ieee.{Float}

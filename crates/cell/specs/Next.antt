@@ -1,4 +1,4 @@
--- The face after a face, worked out from it, and what the code needs of an order of faces. No reader has to believe this: proofs/Orders shows that it walks the order of Faces. Definitions only.
+-- The face after a face, worked out from it, and what the code needs of an order of faces. No reader has to believe this: no public contract cites it, and proofs/Orders shows that it walks the order of Faces. Definitions only.
 use mathlib.Core.Path.{_≡_}
 use mathlib.Core.Bool.{cond}
 use mathlib.Core.List.{[]}

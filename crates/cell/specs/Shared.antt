@@ -1,4 +1,4 @@
--- What the code works out once for the systems of all faces of a cell. No reader has to believe this: proofs/Laws and proofs/Scaling show that the answers are those of Cell. Definitions only.
+-- What the code works out once for the systems of all faces of a cell. No reader has to believe this: no public contract cites it, and proofs/Laws and proofs/Scaling show that the answers are those of Cell. Definitions only.
 use mathlib.Core.Path.{_≡_}
 use mathlib.Core.Bool.{false, cond}
 use mathlib.Core.List.{List, [], _∷_}

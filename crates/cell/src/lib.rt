@@ -26,7 +26,8 @@ pub struct Face {
     pub c: usize,
 }
 
-// A model of a fit, as the definitions speak of it: its unknowns, its constraints, and its faces. The code is that of the one with 3, 7 and 64.
+// The sizes of a fit's model: how many unknowns, constraints and faces. The definitions take them as a parameter, but their block, rows and bounds are those of a, d and c
+// (`problemOf` of specs/Cell), and the code is that of 3, 7 and 64.
 pub struct Model {
     pub u: usize,
     pub n: usize,

@@ -5,3 +5,4 @@ pub mod Taking
 pub mod Once
 pub mod ReadBack
 pub mod OnceRead
+pub mod SettingsInOrder

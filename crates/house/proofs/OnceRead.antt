@@ -16,14 +16,10 @@ use Rattle.house.specs.declared.Quote.{Quote}
 use Rattle.house.specs.File.{houseOf, f64At, tauOf, settingsAt, configOf, quoteAt, quotes}
 use Rattle.house.specs.Repeats.{among, one, keptAfter, kept}
 use Rattle.house.specs.Taken.{recordsAt, refusalOf, keptFor, keptOf}
-use Rattle.house.specs.Encode.{fileBytes, wordsFrom, onceFor, onceOf}
+use Rattle.house.specs.Encode.{fileBytes, Bytes, Wide, AllWide, wordsFrom, onceFor, onceOf}
 use Rattle.house.proofs.Files.{file-is, quotes-length}
 use Rattle.house.proofs.Once.{kept-once, kept-short, kept-passes}
-use Rattle.house.proofs.ReadBack.{Wide, AllWide, settings-same, house-back, settings-back, tau-back, records-back}
-
--- a list of bytes
-abbrev pub Bytes : List ℕ → Type 0
-Bytes s = (i : ℕ) → getD s i 0 < 256
+use Rattle.house.proofs.ReadBack.{settings-same, house-back, settings-back, tau-back, records-back}
 
 -- ---- what is read from bytes has 64 bits
 

@@ -11,20 +11,8 @@ use Rattle.bits.specs.Bytes.{u32At, u64At}
 use Rattle.house.specs.declared.Quote.{Quote}
 use Rattle.house.specs.declared.House.the-variants.{File}
 use Rattle.house.specs.File.{houseOf, settingsBy, quoteAt, quotes}
-use Rattle.house.specs.Encode.{le, wordsBytes, quotesBytes, fileBytes}
+use Rattle.house.specs.Encode.{le, wordsBytes, wordsOf, quotesBytes, fileBytes, Wide, AllWide}
 use Rattle.house.proofs.Files.{read}
-
--- each word is one of 64 bits
-unfoldable pub Wide : List ℕ → Type 0
-Wide [] = Unit {0}
-Wide (n ∷ ns) = (n < 2 ^ 64) × Wide ns
-
-abbrev pub wordsOf : Quote → List ℕ
-wordsOf q = q .number ∷ q .k ∷ q .w ∷ q .weight ∷ []
-
-unfoldable pub AllWide : List Quote → Type 0
-AllWide [] = Unit {0}
-AllWide (q ∷ qs) = Wide (wordsOf q) × AllWide qs
 
 -- ---- numbers
 

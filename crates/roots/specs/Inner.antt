@@ -1,4 +1,4 @@
--- Words of the contracts inside this crate. Nothing here has to be believed: the contracts of `sqrt` and `hypot` do not use them.
+-- Words of the contracts inside this crate. Nothing here has to be believed: no public contract uses them.
 use Prim.Native.Nat.{ℕ, suc, _+_, _*_, _≤_, _<_}
 use mathlib.Core.Path.{_≡_}
 use mathlib.Core.Logic.{_⊎_}

@@ -23,11 +23,11 @@ use Rattle.house.specs.File.{houseOf, tauOf, configOf}
 use Rattle.house.specs.Check.{kOf, wOf, weightOf, allPass}
 use Rattle.house.specs.Repeats.{kept}
 use Rattle.house.specs.Taken.{recordsAt, refusalOf, taken, takenFor, takenOf, keptOf}
-use Rattle.house.specs.Encode.{onceOf}
+use Rattle.house.specs.Encode.{Bytes, onceOf}
 use Rattle.house.proofs.Files.{file-is, quotes-length}
 use Rattle.house.proofs.Taking.{kept-file}
 use Rattle.house.proofs.Once.{kept-short}
-use Rattle.house.proofs.OnceRead.{Bytes, once-house, once-kept, once-tau, once-config, once-refusal}
+use Rattle.house.proofs.OnceRead.{once-house, once-kept, once-tau, once-config, once-refusal}
 use Rattle.text.specs.Lines.{readLine, cappedLine, pointLines, refusedLine}
 use Rattle.text.specs.Answers.{earlyText, refusalText, refusedText, figuresText, acceptedText}
 use Rattle.text.proofs.Answering.{early-full, accepted-full}

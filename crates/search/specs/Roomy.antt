@@ -1,4 +1,4 @@
--- What one pass of the code asks for, so that no count wraps. No promise rests on it: the public function has no such condition.
+-- What one pass of the code asks for, so that no count wraps. No promise rests on it: the public functions have no such condition.
 use Prim.Native.Nat.{_≤_}
 use Rattle.search.specs.declared.Plan.{Plan}
 use Rattle.search.specs.declared.Search.{Search}

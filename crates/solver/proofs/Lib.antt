@@ -1,5 +1,6 @@
 pub mod Backed
 pub mod Eliminated
+pub mod NanPivot
 pub mod Placed
 pub mod Same
 pub mod Segments

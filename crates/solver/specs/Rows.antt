@@ -1,4 +1,4 @@
--- The elimination as the code does it. No reader has to believe this: no public contract cites it, and proofs/Same shows that its answers are those of Solve. Definitions only.
+-- The elimination as the code does it. No reader has to believe this: no public contract cites it, and proofs/Same and proofs/Whole show that its answers are those of Solve. Definitions only.
 -- Six rows of eight numbers, in which a system of n unknowns stands in the last n rows and columns, with its right side in column 6 of each row; column 7 is not used.
 use mathlib.Core.Bool.{Bool, true, false, cond}
 use mathlib.Core.List.{List}

@@ -49,6 +49,10 @@ ranked a b = isNan b || le a b
 unfoldable pub pivotRowOf : ℕ → List Float → ℕ → ℕ
 pivotRowOf n m col = for (col + 1) n (λ i p. cond (ranked (absOf (entry m p col)) (absOf (entry m i col))) i p) col
 
+-- the pivot: that row's entry in column col
+abbrev pub pivotOf : ℕ → List Float → ℕ → Float
+pivotOf n m col = entry m (pivotRowOf n m col) col
+
 abbrev pub exchange : List Float → ℕ → ℕ → List Float
 exchange l a b = set (set l a (at l b)) b (at l a)
 
@@ -93,8 +97,12 @@ pivoted n limit col p s =
 unfoldable pub columnOf : ℕ → Float → ℕ → System → System
 columnOf n limit col s = cond (s .ok) (pivoted n limit col (pivotRowOf n (s .m) col) s) s
 
+-- the system when its first k columns are done, and when all n are
+abbrev pub afterColumns : ℕ → Float → ℕ → System → System
+afterColumns n limit k s = for 0 k (λ col s. columnOf n limit col s) s
+
 unfoldable pub eliminatedOf : ℕ → Float → System → System
-eliminatedOf n limit s = for 0 n (λ col s. columnOf n limit col s) s
+eliminatedOf n limit s = afterColumns n limit n s
 
 -- ---- the substitution back, from the last row up
 
