@@ -5,5 +5,6 @@ mod Windows
 pub mod Least
 pub mod Chosen
 pub mod SearchCounts
+pub mod FitCells
 pub mod NoBetterFace
 pub mod Marked

@@ -1,5 +1,6 @@
 pub mod Axis
 pub mod Search
+pub mod Promised
 pub mod Run
 pub mod Roomy
 pub mod Sigmas
