@@ -7,4 +7,5 @@ pub mod Chosen
 pub mod SearchCounts
 pub mod FitCells
 pub mod NoBetterFace
+pub mod WindowsInside
 pub mod Marked
