@@ -4,6 +4,6 @@ pub mod Quads
 pub mod Listing
 pub mod Contract
 pub mod EachNumber
+pub mod SearchedAsDefined
 pub mod FitCounts
-pub mod NoBetterFit
 pub mod WeightsOfTheFit

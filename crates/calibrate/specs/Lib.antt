@@ -2,4 +2,5 @@ pub mod Settings
 pub mod Entry
 pub mod End
 pub mod Fit
+pub mod Searched
 pub mod Sized

@@ -20,8 +20,8 @@ use Rattle.cell.specs.declared.Limits.{Limits}
 use Rattle.cell.specs.declared.Tried.{Tried}
 use Rattle.cell.specs.declared.Cell.{Cell}
 use Rattle.cell.specs.Faces.{faceAt}
-use Rattle.cell.specs.Least.{yOf, hOf, normalOf, objectiveOf}
-use Rattle.cell.specs.Cell.{Problem, noTry, tryOf, pickOf, bestOf, cellFrom, chosenFrom, chosenOf, problemOf, posedOf, fitModel, cellOf}
+use Rattle.cell.specs.Cell.{Problem, noTry, tryOf, pickOf, bestOf, cellFrom, chosenFrom, chosenOf, posedOf, fitModel, cellOf}
+use Rattle.cell.specs.Choice.{goalAt, problemAt, faceTried, Beats, First}
 use Rattle.cell.proofs.Laws.{try-ind}
 
 -- ---- the better of two
@@ -97,7 +97,7 @@ module _ (f : ℕ → Tried) (fine : (t : ℕ) → Fine (f t)) where
 -- ---- a cell over any problem
 
 module _ (o : List Float → Float) (p : Problem) (count : ℕ) where
-  abbrev pub tried : ℕ → Tried
+  abbrev tried : ℕ → Tried
   tried t = tryOf o p (faceAt (p .u) (p .n) t)
 
   tried-fine : (t : ℕ) → Fine (tried t)
@@ -121,49 +121,38 @@ module _ (o : List Float → Float) (p : Problem) (count : ℕ) where
   unfolding chosenOf chosenFrom cellFrom
   chosen-finite = cond-ind (λ (c : Cell). T (c .some) → finite (c .objective) ≡ true) (tried 0 .some) (tried-fine 0) best-fine
 
-  -- c is as good as face t of the problem: where the face qualifies c has one, and the face's objective is not smaller
-  pub record Beats (c : Cell) (t : ℕ) : Type 0 where
-    pub has : T (tried t .some) → T (c .some)
-    pub least : T (tried t .some) → T (lt (tried t .objective) (c .objective)) → ⊥
-
   -- no face that the cell tried is better than the cell
-  pub chosen-least : (t : ℕ) → t < chosenOf o p count .faces → Beats (chosenOf o p count) t
+  pub chosen-least : (t : ℕ) → t < chosenOf o p count .faces → Beats tried (chosenOf o p count) t
   unfolding chosenOf chosenFrom cellFrom
   chosen-least = go (tried 0 .some) refl
     where
-      only : (t : ℕ) → t ≡ 0 → tried 0 .some ≡ true → Beats (cellFrom (tried 0) 1) t
+      only : (t : ℕ) → t ≡ 0 → tried 0 .some ≡ true → Beats tried (cellFrom (tried 0) 1) t
       only t e s =
-          subst (Beats (cellFrom (tried 0) 1)) (sym e) (record { has = λ h. h; least = λ h. lt-not-self (tried 0 .objective) })
+          subst (Beats tried (cellFrom (tried 0) 1)) (sym e) (record { has = λ h. h; least = λ h. lt-not-self (tried 0 .objective) })
 
-      go : (b : Bool) → tried 0 .some ≡ b → (t : ℕ) → t < cond b (cellFrom (tried 0) 1) (cellFrom (bestOf o p count) count) .faces → Beats (cond b (cellFrom (tried 0) 1) (cellFrom (bestOf o p count) count)) t
+      go : (b : Bool) → tried 0 .some ≡ b → (t : ℕ) → t < cond b (cellFrom (tried 0) 1) (cellFrom (bestOf o p count) count) .faces → Beats tried (cond b (cellFrom (tried 0) 1) (cellFrom (bestOf o p count) count)) t
       go true e t l = only t (omega arith) e
       go false e t l = let g = best-leads .as-good t l in record { has = g .has; least = g .least }
 
-  -- c is face t of those it tried, and the qualifying ones before it have larger objectives
-  pub record First (c : Cell) (t : ℕ) : Type 0 where
-    pub below : t < c .faces
-    pub is : c ≡ cellFrom (tried t) (c .faces)
-    pub earlier : (s : ℕ) → s < t → T (tried s .some) → T (lt (tried t .objective) (tried s .objective))
-
   -- a cell that has a face is one of those it tried, and of equal ones the first
-  pub chosen-first : T (chosenOf o p count .some) → (t : ℕ) × First (chosenOf o p count) t
+  pub chosen-first : T (chosenOf o p count .some) → (t : ℕ) × First tried (chosenOf o p count) t
   unfolding chosenOf chosenFrom cellFrom
   chosen-first = go (tried 0 .some)
     where
-      go : (b : Bool) → T (cond b (cellFrom (tried 0) 1) (cellFrom (bestOf o p count) count) .some) → (t : ℕ) × First (cond b (cellFrom (tried 0) 1) (cellFrom (bestOf o p count) count)) t
-      go true h = (0, record { below = omega arith; is = refl; earlier = λ s l. absurd (omega arith) })
+      go : (b : Bool) → T (cond b (cellFrom (tried 0) 1) (cellFrom (bestOf o p count) count) .some) → (t : ℕ) × First tried (cond b (cellFrom (tried 0) 1) (cellFrom (bestOf o p count) count)) t
+      go true h = (0, record { below = omega arith; qualifies = h; is = refl; earlier = λ s l. absurd (omega arith) })
       go false h =
           let w = best-leads .first h in
-          (w .0, record { below = w .1 .below; is = ap (λ (b : Tried). cellFrom b count) (w .1 .is); earlier = w .1 .earlier })
+          (w .0, record { below = w .1 .below; qualifies = subst (λ (b : Tried). T (b .some)) (w .1 .is) h; is = ap (λ (b : Tried). cellFrom b count) (w .1 .is); earlier = w .1 .earlier })
 
 -- ---- the cell of a model
 
 module _ (k : Model) (ks ws ts : List Float) (l : Limits) (m sigma : Float) where
-  abbrev pub goal : List Float → Float
-  goal = objectiveOf (yOf ks m sigma) (λ i. hOf (yOf ks m sigma i)) ws ts
+  abbrev goal : List Float → Float
+  goal = goalAt ks ws ts m sigma
 
-  abbrev pub stated : Problem
-  stated = problemOf k (normalOf (yOf ks m sigma) (λ i. hOf (yOf ks m sigma i)) ws ts) sigma l
+  abbrev stated : Problem
+  stated = problemAt k ks ws ts l m sigma
 
   pub cell-faces : (cellOf k ks ws ts l m sigma .faces ≡ 1) ⊎ (cellOf k ks ws ts l m sigma .faces ≡ k .faces)
   unfolding cellOf posedOf
@@ -173,12 +162,12 @@ module _ (k : Model) (ks ws ts : List Float) (l : Limits) (m sigma : Float) wher
   unfolding cellOf posedOf
   cell-finite = chosen-finite goal stated (k .faces)
 
-  pub cell-least : (t : ℕ) → t < cellOf k ks ws ts l m sigma .faces → Beats goal stated (k .faces) (cellOf k ks ws ts l m sigma) t
-  unfolding cellOf posedOf
+  pub cell-least : (t : ℕ) → t < cellOf k ks ws ts l m sigma .faces → Beats (faceTried k ks ws ts l m sigma) (cellOf k ks ws ts l m sigma) t
+  unfolding cellOf posedOf faceTried
   cell-least = chosen-least goal stated (k .faces)
 
-  pub cell-first : T (cellOf k ks ws ts l m sigma .some) → (t : ℕ) × First goal stated (k .faces) (cellOf k ks ws ts l m sigma) t
-  unfolding cellOf posedOf
+  pub cell-first : T (cellOf k ks ws ts l m sigma .some) → (t : ℕ) × First (faceTried k ks ws ts l m sigma) (cellOf k ks ws ts l m sigma) t
+  unfolding cellOf posedOf faceTried
   cell-first = chosen-first goal stated (k .faces)
 
 -- the fit: 1 or 64

@@ -3,6 +3,7 @@
 pub mod Faces
 pub mod Least
 pub mod Cell
+pub mod Choice
 pub mod Next
 pub mod Shared
 pub mod Lent

@@ -15,7 +15,8 @@ use Rattle.search.specs.declared.Found.{Found}
 use Rattle.search.specs.declared.Place.{Place}
 use Rattle.search.specs.declared.Plan.{Plan}
 use Rattle.search.specs.declared.Search.{Search}
-use Rattle.search.specs.Search.{CellFn, passOf, cellAt, placeOf, foundOf, improves, recentred, shrunk, stopped, movedOf, countedOf, refusedOf, stepOf, startOf, afterPasses}
+use Rattle.search.specs.Search.{CellFn, passOf, placeOf, foundOf, improves, recentred, shrunk, stopped, movedOf, countedOf, refusedOf, stepOf, startOf, afterPasses}
+use Rattle.search.specs.Promised.{cellOfPass}
 use Rattle.search.proofs.Passes.{AsGood, Proper, later-old, later-new, pass-new, pass-of}
 use Rattle.search.proofs.Trail.{moved-ind, after-ind, trail, passes-after}
 
@@ -102,10 +103,6 @@ module _ (f : CellFn) (p : Plan) (s : Search) where
 
 -- ---- after q passes
 
--- the cell at (i, j) of pass q
-abbrev pub cellOfPass : CellFn → Plan → ℕ → ℕ → ℕ → Cell
-cellOfPass f p q i j = cellAt f (afterPasses f p q .window) (p .n) i j
-
 module _ (f : CellFn) (p : Plan) where
   -- a refusal is that of the last pass made, in which no cell has a face
   pub record Refusal (s : Search) : Type 0 where
@@ -150,6 +147,10 @@ module _ (f : CellFn) (p : Plan) where
       no-face : (x : Bool) → not x ≡ true → T x → ⊥
       no-face true e t = false-true e
       no-face false e t = t
+
+  -- a search that goes on did not refuse
+  pub going-on : (q : ℕ) → afterPasses f p q .going ≡ true → afterPasses f p q .refused ≡ false
+  going-on q = verdict q .unrefused
 
   pub refusal : (q : ℕ) → afterPasses f p q .refused ≡ true → Refusal (afterPasses f p q)
   refusal q = verdict q .refusal

@@ -5,5 +5,7 @@ mod Windows
 pub mod Least
 pub mod Chosen
 pub mod SearchCounts
+pub mod FitCells
 pub mod NoBetterFace
+pub mod WindowsInside
 pub mod Marked

@@ -17,7 +17,8 @@ use Rattle.cell.specs.Cell.{noCell}
 use Rattle.search.specs.declared.Window.{Window}
 use Rattle.search.specs.declared.PassBest.{PassBest}
 use Rattle.search.specs.Search.{CellFn, better, consider, noBest, rowOf, passOf, cellAt, improves}
-use Rattle.search.proofs.Sums.{sum, sum-none, sum-next}
+use Rattle.search.specs.Promised.{sum}
+use Rattle.search.proofs.Sums.{sum-none, sum-next}
 
 -- ---- the better of two cells
 

@@ -3,12 +3,9 @@ use mathlib.Core.Path.{_≡_, refl, ap, _∙_}
 use Prim.Native.Nat.{ℕ, suc, _+_, _-_, _*_, _≤_, _<_}
 use native.Mathlib.Omega.{arith}
 use native.Mathlib.Nat.{add-mul, one-mul, zero-mul, zero-add}
-use Rattle.laws.specs.Loop.{turns, for}
+use Rattle.laws.specs.Loop.{turns}
 use Rattle.laws.proofs.Loops.{turns-last, for-ind}
-
--- g 0 + .. + g (n - 1)
-unfoldable pub sum : ℕ → (ℕ → ℕ) → ℕ
-sum n g = for 0 n (λ i t. t + g i) 0
+use Rattle.search.specs.Promised.{sum}
 
 pub sum-none : (g : ℕ → ℕ) → sum 0 g ≡ 0
 unfolding sum turns
@@ -22,14 +19,7 @@ sum-next n g =
     let d : n ≡ n - 0 = omega arith in
     ap (λ (k : ℕ). turns f k 0 0) e ∙ turns-last f n 0 0 ∙ ap (λ (k : ℕ). turns f n 0 0 + g k) (zero-add n) ∙ ap (λ (k : ℕ). turns f k 0 0 + g n) d
 
--- terms from a to b
-pub sum-least : (n a : ℕ) (g : ℕ → ℕ) → ((i : ℕ) → i < n → a ≤ g i) → n * a ≤ sum n g
-unfolding sum
-sum-least n a g h = for-ind (λ i t. t + g i) (λ (i t : ℕ). i * a ≤ t) n (λ i t l p. more i t (h i l) p) 0 (let z = zero-mul a in omega arith)
-  where
-    more : (i t : ℕ) → a ≤ g i → i * a ≤ t → (i + 1) * a ≤ t + g i
-    more i t l p = let y = add-mul i 1 a in let o = one-mul a in omega arith
-
+-- terms of at most b
 pub sum-most : (n b : ℕ) (g : ℕ → ℕ) → ((i : ℕ) → i < n → g i ≤ b) → sum n g ≤ n * b
 unfolding sum
 sum-most n b g h = for-ind (λ i t. t + g i) (λ (i t : ℕ). t ≤ i * b) n (λ i t l p. more i t (h i l) p) 0 (let z = zero-mul b in omega arith)

@@ -19,7 +19,8 @@ use Rattle.search.specs.declared.Place.{Place}
 use Rattle.search.specs.declared.Plan.{Plan}
 use Rattle.search.specs.declared.Search.{Search}
 use Rattle.search.specs.Search.{CellFn, passOf, placeOf, foundOf, improves, width, recentred, narrowed, shrunk, stopped, canRecentre, canShrink, movedOf, countedOf, refusedOf, stepOf, startOf, nextOf, afterPasses}
-use Rattle.search.proofs.Sums.{sum, sum-none, sum-next}
+use Rattle.search.specs.Promised.{sum}
+use Rattle.search.proofs.Sums.{sum-none, sum-next}
 use Rattle.search.proofs.Passes.{facesAt, rows-counts}
 
 -- ---- the cases of a move and of a pass

@@ -1,4 +1,4 @@
--- The search of the fit: its cell, and its sizes. Definitions only.
+-- The search of the fit: its cell, that cell's faces, and its sizes. Definitions only.
 use mathlib.Core.Bool.{Bool, _&&_}
 use mathlib.Core.List.{List}
 use lib.Dec.{leb}
@@ -6,14 +6,20 @@ use lib.Ieee.{Float}
 use Rattle.laws.specs.Choice.{unless}
 use Rattle.exponent.specs.Exp.{expOf}
 use Rattle.cell.specs.declared.Limits.{Limits}
-use Rattle.cell.specs.Cell.{innerOf}
+use Rattle.cell.specs.Cell.{fitModel, innerOf}
+use Rattle.cell.specs.Choice.{faceTried}
 use Rattle.search.specs.declared.Plan.{Plan}
 use Rattle.search.specs.declared.Search.{Search}
 use Rattle.search.specs.Search.{CellFn, startOf, searchOf}
+use Rattle.search.specs.Promised.{FaceFn}
 
 -- the cell of the fit at (m, ln sigma), over observations k, w and scaled weights t
 unfoldable pub fitCell : List Float → List Float → List Float → Limits → CellFn
 fitCell ks ws ts l m ls = innerOf ks ws ts l m (expOf ls)
+
+-- face t of that cell, tried
+unfoldable pub fitFace : List Float → List Float → List Float → Limits → FaceFn
+fitFace ks ws ts l m ls t = faceTried fitModel ks ws ts l m (expOf ls) t
 
 -- the sizes of document 01
 unfoldable pub sizesHold : Plan → Bool

@@ -6,7 +6,7 @@ use Rattle.search.specs.Search.{afterPasses, limitOf}
 use Rattle.search.specs.Run.{fitCell}
 use Rattle.search.proofs.Trail.{after-start, ended-early, stepped}
 use Rattle.search.proofs.SearchCounts.{sizes-are, roomy}
-use Rattle.search.proofs.NoBetterFace.{fit-most}
+use Rattle.search.proofs.FitCells.{fit-most}
 use native.Mathlib.Omega.{arith}
 use Rattle.search.proofs.searched.Statement.{statement}
 use Rattle.search.proofs.searched.Tie as tie

@@ -6,10 +6,11 @@ use Rattle.laws.proofs.Choices.{if-true, if-false}
 use Rattle.search.specs.declared.Counts.{Counts}
 use Rattle.search.specs.Search.{countedOf, passOf, stepOf}
 use Rattle.search.specs.Run.{fitCell}
-use Rattle.search.proofs.Sums.{sum, sum-most}
+use Rattle.search.specs.Promised.{sum}
+use Rattle.search.proofs.Sums.{sum-most}
 use Rattle.search.proofs.Passes.{CountsTo, facesAt, rows-counts}
 use Rattle.search.proofs.SearchCounts.{grid-cells}
-use Rattle.search.proofs.NoBetterFace.{fit-most}
+use Rattle.search.proofs.FitCells.{fit-most}
 use native.Mathlib.Omega.{arith}
 use Rattle.search.proofs.step.Statement.{statement}
 use Rattle.search.proofs.step.Tie as tie

@@ -10,10 +10,11 @@ use Rattle.search.specs.declared.PassBest.{PassBest}
 use Rattle.search.specs.Search.{noBest, rowOf, passOf}
 use Rattle.search.specs.Run.{fitCell}
 use Rattle.search.specs.Sigmas.{sigmasOf}
-use Rattle.search.proofs.Sums.{sum, sum-most}
+use Rattle.search.specs.Promised.{sum}
+use Rattle.search.proofs.Sums.{sum-most}
 use Rattle.search.proofs.Passes.{CountsTo, facesAt, rows-counts}
 use Rattle.search.proofs.SearchCounts.{grid-cells}
-use Rattle.search.proofs.NoBetterFace.{fit-most}
+use Rattle.search.proofs.FitCells.{fit-most}
 use Rattle.laws.proofs.Loops.{none-yet, one-more, all-done}
 use borrow.Author.Needs.{needs}
 use native.Mathlib.Omega.{arith}

@@ -15,9 +15,10 @@ use Rattle.search.specs.Sigmas.{sigmaAt, sigmasOf}
 use Rattle.laws.specs.Loop.{for}
 use Rattle.search.specs.Search.{pointAt, consider, cellAt, rowOf}
 use Rattle.search.specs.Run.{fitCell}
-use Rattle.search.proofs.Sums.{sum, sum-most}
+use Rattle.search.specs.Promised.{sum}
+use Rattle.search.proofs.Sums.{sum-most}
 use Rattle.search.proofs.Passes.{CountsTo, facesAt, row-counts}
-use Rattle.search.proofs.NoBetterFace.{fit-most}
+use Rattle.search.proofs.FitCells.{fit-most}
 use Rattle.laws.proofs.Loops.{none-yet, one-more, all-done, for-same}
 use borrow.Author.Needs.{needs}
 use native.Mathlib.Omega.{arith}

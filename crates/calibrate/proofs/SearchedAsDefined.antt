@@ -1,0 +1,112 @@
+-- Demand 3, of every fit that passes the entry checks: the counts are those of the search as defined, within its bounds, and no qualifying face tried has a smaller objective than the one chosen.
+use mathlib.Core.Path.{_≡_, refl, sym, _∙_}
+use mathlib.Core.Bool.{Bool, true, false, cond}
+use mathlib.Core.List.{List}
+use Prim.Native.Nat.{ℕ}
+use native.Mathlib.Omega.{arith}
+use lib.Dec.{eqb}
+use lib.ListN.{length}
+use lib.Ieee.{Float}
+use Rattle.laws.specs.Floats.{+0}
+use Rattle.laws.proofs.Choices.{cond-ind, cond-test, false-true}
+use Rattle.exponent.specs.Exp.{expOf}
+use Rattle.slice.specs.declared.SviSlice.{SviSlice}
+use Rattle.slice.specs.Slice.{numberOf}
+use Rattle.search.specs.declared.Search.{Search}
+use Rattle.search.specs.Promised.{Promised}
+use Rattle.search.specs.Run.{fitCell, fitFace}
+use Rattle.search.proofs.FitCells.{fit-chosen}
+use Rattle.search.proofs.NoBetterFace.{no-better-face}
+use Rattle.weights.specs.Weights.{cappedOf}
+use Rattle.calibrate.specs.declared.FitConfig.{FitConfig}
+use Rattle.calibrate.specs.declared.FitAnswer.{FitAnswer}
+use Rattle.calibrate.specs.declared.Sums.{Sums}
+use Rattle.calibrate.specs.Entry.{rangeOf, entryNumber}
+use Rattle.calibrate.specs.End.{refusedWith, marksAt, sliceOf, sumsOf, paramsHold, rmseOf, rmseHolds, acceptedOf, endOf}
+use Rattle.calibrate.specs.Fit.{fitSearch, bestEnd, searchEnd, decidedOf, cappedAs, fitOf}
+use Rattle.calibrate.specs.Searched.{scaledFor, aMaxFor, limitsFor, planFor, searchFor, FromFound, Searched}
+use Rattle.calibrate.proofs.Known.{passed, entered, in-range}
+
+module _ (tau : Float) (c : FitConfig) (ks ws ts : List Float) where
+  abbrev s : Search
+  s = searchFor c ks ws ts
+
+  abbrev active : List Bool
+  active = marksAt c (aMaxFor c ws) (expOf (s .found .ls)) (s .found .cell)
+
+  abbrev slice : SviSlice
+  slice = sliceOf tau (rangeOf ks) active (s .found .cell .x) (s .found .m) (expOf (s .found .ls)) (c .«a_min») (aMaxFor c ws)
+
+  abbrev sums : Sums
+  sums = sumsOf slice ks ws (scaledFor c ts)
+
+  abbrev rmse : Float
+  rmse = rmseOf sums (length ks)
+
+  abbrev done : FitAnswer
+  done = cappedAs (acceptedOf c (s .counts) (s .found .cell .objective) active slice (sums .params) rmse) (length (cappedOf (c .«max_weight_ratio») ts))
+
+  -- the answers of a fit that passes the entry checks: what holds of each of them holds of its answer
+  module _
+      (P : FitAnswer → Type 0)
+      (six : s .refused ≡ true → P (refusedWith 6 0 0 +0 +0 (s .counts)))
+      (seven : s .refused ≡ false → P (refusedWith 7 0 0 +0 +0 (s .counts)))
+      (eight : s .refused ≡ false → P (refusedWith 8 0 0 +0 +0 (s .counts)))
+      (nine : s .refused ≡ false → P (refusedWith 9 0 0 rmse (c .«max_rmse_vol») (s .counts)))
+      (none : s .refused ≡ false → s .found .«on_edge» ≡ false → P done) where
+    -- of a, with its capped positions where it is accepted
+    abbrev Of : FitAnswer → Type 0
+    Of a = P (cond (eqb (a .number) 0) (cappedAs a (length (cappedOf (c .«max_weight_ratio») ts))) a)
+
+    of-decided : Of (decidedOf tau c ks ws (scaledFor c ts))
+    unfolding decidedOf searchEnd bestEnd endOf refusedWith acceptedOf
+    of-decided =
+        cond-test Of (s .refused) six
+        (λ r.
+        cond-test Of (s .found .«on_edge») (λ e. seven r)
+        (λ e.
+        cond-ind Of (eqb (numberOf slice) 0)
+        (cond-ind Of (paramsHold c (aMaxFor c ws) (s .found .cell .objective) sums)
+        (cond-ind Of (rmseHolds c rmse) (none r e) (nine r))
+        (eight r))
+        (eight r)))
+
+    of-fit : (room slots : ℕ) → entryNumber tau c ks ws ts room slots ≡ 0 → P (fitOf tau c ks ws ts room slots)
+    unfolding fitOf
+    of-fit room slots h = rw h of-decided
+
+module _ (tau : Float) (c : FitConfig) (ks ws ts : List Float) (room slots : ℕ) where
+  -- the number, the counts and what an accepted answer is made from, of every answer
+  record Ends (a : FitAnswer) : Type 0 where
+    counts : a .counts ≡ searchFor c ks ws ts .counts
+    refuses : searchFor c ks ws ts .refused ≡ true → a .number ≡ 6
+    refused : a .number ≡ 6 → searchFor c ks ws ts .refused ≡ true
+    accepted : a .number ≡ 0 → FromFound tau c ks ws (searchFor c ks ws ts) a
+
+  ends : entryNumber tau c ks ws ts room slots ≡ 0 → Ends (fitOf tau c ks ws ts room slots)
+  unfolding refusedWith acceptedOf cappedAs
+  ends =
+      of-fit tau c ks ws ts Ends
+      (λ r. record { counts = refl; refuses = λ e. refl; refused = λ e. r; accepted = λ e. absurd (omega (arith, e)) })
+      (λ r. record { counts = refl; refuses = λ e. false-true (sym r ∙ e); refused = λ e. absurd (omega (arith, e)); accepted = λ e. absurd (omega (arith, e)) })
+      (λ r. record { counts = refl; refuses = λ e. false-true (sym r ∙ e); refused = λ e. absurd (omega (arith, e)); accepted = λ e. absurd (omega (arith, e)) })
+      (λ r. record { counts = refl; refuses = λ e. false-true (sym r ∙ e); refused = λ e. absurd (omega (arith, e)); accepted = λ e. absurd (omega (arith, e)) })
+      (λ r i.
+      record {
+        counts = refl;
+        refuses = λ e. false-true (sym r ∙ e);
+        refused = λ e. absurd (omega (arith, e));
+        accepted = λ e. record { found = r; inside = i; objective = refl; active = refl; slice = refl };
+      }) room slots
+
+  search-promised : entryNumber tau c ks ws ts room slots ≡ 0
+      → Promised (fitCell ks ws (scaledFor c ts) (limitsFor c ws)) (fitFace ks ws (scaledFor c ts) (limitsFor c ws)) 64 (planFor c ks) (searchFor c ks ws ts)
+  unfolding fitSearch
+  search-promised h =
+      let p = passed tau c ks ws ts room slots (entered tau c ks ws ts room slots h .0) in
+      no-better-face _ _ 64 (fit-chosen ks ws (scaledFor c ts) (limitsFor c ws) (in-range c ks ws ts (p .sized))) (planFor c ks)
+
+  pub searched-as-defined : entryNumber tau c ks ws ts room slots ≡ 0 → Searched tau c ks ws ts (fitOf tau c ks ws ts room slots)
+  searched-as-defined h =
+      let e = ends h in
+      record { counts = e .counts; search = search-promised h; refuses = e .refuses; refused = e .refused; accepted = e .accepted }

@@ -1,0 +1,39 @@
+-- What a cell chooses from: its faces as they are tried, and when it is the best of them. Definitions only.
+use mathlib.Core.Path.{_≡_}
+use mathlib.Core.List.{List}
+use Prim.Native.Nat.{ℕ, _<_}
+use lib.Dec.{T}
+use lib.Ieee.{Float, lt}
+use Rattle.cell.specs.declared.Model.{Model}
+use Rattle.cell.specs.declared.Limits.{Limits}
+use Rattle.cell.specs.declared.Tried.{Tried}
+use Rattle.cell.specs.declared.Cell.{Cell}
+use Rattle.cell.specs.Faces.{faceAt}
+use Rattle.cell.specs.Least.{yOf, hOf, normalOf, objectiveOf}
+use Rattle.cell.specs.Cell.{Problem, tryOf, cellFrom, problemOf}
+
+-- the objective of the cell (m, sigma), over observations k, w and weights t
+abbrev pub goalAt : List Float → List Float → List Float → Float → Float → List Float → Float
+goalAt ks ws ts m sigma = objectiveOf (yOf ks m sigma) (λ i. hOf (yOf ks m sigma i)) ws ts
+
+-- its problem, in a model
+abbrev pub problemAt : Model → List Float → List Float → List Float → Limits → Float → Float → Problem
+problemAt k ks ws ts l m sigma = problemOf k (normalOf (yOf ks m sigma) (λ i. hOf (yOf ks m sigma i)) ws ts) sigma l
+
+-- face t of it, tried: whether it qualifies (`some`), its objective and its x
+unfoldable pub faceTried : Model → List Float → List Float → List Float → Limits → Float → Float → ℕ → Tried
+faceTried k ks ws ts l m sigma t =
+    let p = problemAt k ks ws ts l m sigma in
+    tryOf (goalAt ks ws ts m sigma) p (faceAt (p .u) (p .n) t)
+
+-- the cell c is as good as face t of the faces g: where that face qualifies, c has one, and the face's objective is not smaller
+pub record Beats (g : ℕ → Tried) (c : Cell) (t : ℕ) : Type 0 where
+  pub has : T (g t .some) → T (c .some)
+  pub least : T (g t .some) → T (lt (g t .objective) (c .objective)) → ⊥
+
+-- the cell c is face t of the faces g, one that it tried and that qualifies, and the qualifying ones before it have larger objectives
+pub record First (g : ℕ → Tried) (c : Cell) (t : ℕ) : Type 0 where
+  pub below : t < c .faces
+  pub qualifies : T (g t .some)
+  pub is : c ≡ cellFrom (g t) (c .faces)
+  pub earlier : (s : ℕ) → s < t → T (g s .some) → T (lt (g t .objective) (g s .objective))
