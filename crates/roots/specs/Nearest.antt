@@ -32,7 +32,7 @@ pub record IsNearestEven (n q k : ℕ) : Type 0 where
   pub above : (y : ℕ) → Counted y → q * 2 ^ k < y → 4 * n ≤ sq (y + q * 2 ^ k)
   pub even : (y : ℕ) → Counted y → (y ≡ q * 2 ^ k → ⊥) → sq (y + q * 2 ^ k) ≡ 4 * n → q % 2 ≡ 0
 
--- v is the f64 nearest to the root of n units: it has that many units, or, where they are 2 ^ 1024 or more, past the largest finite number, it is +infinity
+-- v is the f64 nearest to the root of n, in units: it is q * 2 ^ k of them, or, where those come to 2 ^ 1024 or more, past the largest finite number, +infinity
 abbrev pub IsNearest : ℕ → Float → Type 0
 IsNearest n v =
     (q : ℕ) × (k : ℕ) × IsNearestEven n q k × (q * 2 ^ k < 2 ^ 2098 → HasValue v false (q * 2 ^ k) (2 ^ 1074)) × (2 ^ 2098 ≤ q * 2 ^ k → v ≡ inf false)
