@@ -1,7 +1,8 @@
 """Writes the fixed answers of ln and exp that crate `elementary` replays, crates/elementary/data/ln and exp, each line a function, an argument's bits and a result's bits:
 python3 tools/elementary/answers.py target/elementary/libport.so
-First the special results that document 01 names (a NaN is 7ff8000000000000). Then mpmath's results, rounded to nearest: only arguments are taken whose exact result
-lies clear of the middle between two floats, and there the port has to give it."""
+First the special results that document 01 names (a NaN is 7ff8000000000000); where the port gives another it stops. Then 30 arguments of each region of arguments.py, with
+mpmath's result rounded to nearest. Left out are arguments whose exact result lies within 0.01 of a last place of the middle between two floats, and those at which the port
+does not give the nearest; how many the latter were is printed. So the list shows that results stay as they are, and not how often they are the nearest: errors.py counts that."""
 import math
 import os
 import random
@@ -44,4 +45,4 @@ for name, regions in (("ln", arguments.LN), ("exp", arguments.EXP)):
                     continue
                 out.write(f"{name} {bits(x)} {bits(right)}\n")
                 made += 1
-print(f"written; {skipped} arguments left out, at which the port is not nearest")
+print(f"written; {skipped} arguments left out at which the port is not the nearest, beside those near a middle")

@@ -4,8 +4,7 @@ ghost use mathlib.Core.Bool.{cond};
 ghost use Prim.Native.Nat.{_<_};
 ghost use lib.ListN.{getD};
 ghost use lib.Ieee.{ofBits, toBits, binary64};
-ghost use Rattle.laws.specs.Floats.{absOf, finite, minOf, maxOf};
-ghost use Rattle.laws.proofs.Floats.{unsigned as unsignedOf};
+ghost use Rattle.laws.specs.Floats.{absOf, unsignedOf, finite, minOf, maxOf};
 ghost use Rattle.bits.specs.Bytes.{u32At, u64At};
 
 // a where c holds, else b. Both are worked out, so that no jump is needed.

@@ -14,9 +14,8 @@ use lib.Ieee.Bits.{ofBits-toBits}
 use lib.Ieee.Fits.{down-pos, mul-fits, nan-fits}
 use borrow.Author.Tests.{ltb-false}
 use Rattle.laws.specs.Loop.{turns}
-use Rattle.laws.specs.Floats.{_*f_, +0, one, two, at, absOf, maxOf}
+use Rattle.laws.specs.Floats.{_*f_, +0, one, two, at, absOf, unsignedOf, maxOf}
 use Rattle.laws.proofs.Choices.{false-true, cond-ind, cond-test}
-use Rattle.laws.proofs.Floats.{unsigned}
 use Rattle.laws.proofs.Loops.{for-ind, for-keeps, below-next}
 use Rattle.laws.proofs.Order.{lt-le-trans, lt-not-self, lt→le}
 use Rattle.solver.specs.Solve.{entry, rowScaleOf, scaleOf}
@@ -38,7 +37,7 @@ pub zero-sized : Sized +0
 zero-sized = record { number = steps.zero-sized .number; above = steps.zero-sized .above }
 
 -- one entry: the code's step is the definition's, and keeps the number sized
-step-is : {a u r : Float} (x : Float) → Sized a → u ≡ unsigned x → r ≡ larger a u → (r ≡ maxOf a (absOf x)) × Sized r
+step-is : {a u r : Float} (x : Float) → Sized a → u ≡ unsignedOf x → r ≡ larger a u → (r ≡ maxOf a (absOf x)) × Sized r
 step-is {a} {u} {r} x s d e =
     let w : steps.Sized a = record { number = s .number; above = s .above } in
     let h = e ∙ ap (larger a) d ∙ larger-step a x w in
@@ -47,7 +46,7 @@ step-is {a} {u} {r} x s d e =
 
 -- three entries
 pub line-is :
-    {a u v w p q r : Float} (x y z : Float) → Sized a → u ≡ unsigned x → p ≡ larger a u → v ≡ unsigned y → q ≡ larger p v → w ≡ unsigned z → r ≡ larger q w
+    {a u v w p q r : Float} (x y z : Float) → Sized a → u ≡ unsignedOf x → p ≡ larger a u → v ≡ unsignedOf y → q ≡ larger p v → w ≡ unsignedOf z → r ≡ larger q w
     → (r ≡ lineScale a x y z) × Sized r
 line-is x y z s d e f g h k =
     let i = step-is x s d e in

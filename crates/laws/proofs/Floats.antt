@@ -11,7 +11,7 @@ use lib.Ieee.{Float, nan, inf, fin, binary64, up, down, lt, eq, ne, neg, div, fi
 use lib.Ieee.Compare.{differs-from-itself}
 use lib.Ieee.Bits.{is-true, nanBits-is, nanBits-above}
 use borrow.Author.Tests.{ltb-true, ltb-false, eqb-true, eq-eqb}
-use Rattle.laws.specs.Floats.{absOf, finite, +0, one}
+use Rattle.laws.specs.Floats.{absOf, unsignedOf, finite, +0, one}
 use Rattle.laws.proofs.Choices.{false-true, both}
 
 -- ---- NaN
@@ -69,9 +69,7 @@ finite-no-nan (fin s m e) h = tt
 
 -- ---- magnitude
 
--- the two tests that `magnitude` makes: `if x < 0.0 { -x } else { x }`, and then `if y == 0.0 { 0.0 } else { y }`
-abbrev pub unsigned : Float → Float
-unsigned x = cond (lt x +0) (neg x) x
+-- by the two tests that `magnitude` makes: `if x < 0.0 { -x } else { x }`, which is `unsignedOf`, and then `if y == 0.0 { 0.0 } else { y }`
 
 abs-below : (x : Float) → lt x +0 ≡ true → neg x ≡ absOf x
 unfolding lt neg absOf ofBits
@@ -122,14 +120,14 @@ flip (inf s) false = refl
 flip (fin s m e) true = refl
 flip (fin s m e) false = refl
 
-pub abs-at-zero : (x y : Float) → T (fits binary64 y) → y ≡ unsigned x → eq y +0 ≡ true → +0 ≡ absOf x
+pub abs-at-zero : (x y : Float) → T (fits binary64 y) → y ≡ unsignedOf x → eq y +0 ≡ true → +0 ≡ absOf x
 abs-at-zero x y f e h = abs-zero y f h ∙ ap absOf e ∙ flip x (lt x +0)
 
 rest : (x : Float) (b : Bool) → lt x +0 ≡ b → eq (cond b (neg x) x) +0 ≡ false → cond b (neg x) x ≡ absOf x
 rest x true h k = abs-below x h
 rest x false h k = abs-above x h k
 
-pub abs-off-zero : (x y : Float) → y ≡ unsigned x → eq y +0 ≡ false → y ≡ absOf x
+pub abs-off-zero : (x y : Float) → y ≡ unsignedOf x → eq y +0 ≡ false → y ≡ absOf x
 abs-off-zero x y e h = e ∙ rest x (lt x +0) refl (sym (ap (λ (z : Float). eq z +0) e) ∙ h)
 
 -- ---- the two zeros: what holds of +0 and -0 holds of every zero that fits

@@ -4,7 +4,7 @@ use mathlib.Core.List.{List}
 use Prim.Native.Nat.{ℕ}
 use lib.IntN.{pos}
 use lib.ListN.{getD}
-use lib.Ieee.{Float, nan, inf, fin, binary64, add, sub, mul, div, lt, ne, ofBits, ofInt}
+use lib.Ieee.{Float, nan, inf, fin, binary64, add, sub, mul, div, neg, lt, ne, ofBits, ofInt}
 
 -- the four operations
 infixl 60 _+f_
@@ -57,6 +57,10 @@ unfoldable pub absOf : Float → Float
 absOf nan = nan
 absOf (inf s) = inf false
 absOf (fin s m e) = fin false m e
+
+-- |x|, but for -0, which stays
+abbrev pub unsignedOf : Float → Float
+unsignedOf x = cond (lt x +0) (neg x) x
 
 -- neither NaN nor an infinity
 unfoldable pub finite : Float → Bool

@@ -2,8 +2,7 @@
 use Prim.Native.Nat.{_<_, ℕ}
 use Rattle.bits.specs.Bytes.{u32At, u64At}
 use Rattle.laws.proofs.Choices.{settled}
-use Rattle.laws.proofs.Floats.{unsigned as unsignedOf}
-use Rattle.laws.specs.Floats.{absOf, finite, maxOf, minOf}
+use Rattle.laws.specs.Floats.{absOf, finite, maxOf, minOf, unsignedOf}
 use lib.Ieee.{Float, binary64, ofBits, toBits}
 use mathlib.Core.Bool.{Bool, cond}
 use mathlib.Core.List.{List}

@@ -14,9 +14,9 @@ use lib.Ieee.Fits.{up-pos}
 use lib.Ieee.Bits.{is-true}
 use borrow.Author.Tests.{ltb-true, ltb-false, le-ltb, le-leb, lt-leb}
 use Rattle.laws.specs.Loop.{turns}
-use Rattle.laws.specs.Floats.{+0, at, absOf, maxOf}
+use Rattle.laws.specs.Floats.{+0, at, absOf, unsignedOf, maxOf}
 use Rattle.laws.proofs.Choices.{false-true, cond-test, if-true, if-false}
-use Rattle.laws.proofs.Floats.{nan-test, unsigned}
+use Rattle.laws.proofs.Floats.{nan-test}
 use Rattle.laws.proofs.Loops.{again, halted}
 use Rattle.laws.proofs.Order.{lt-le-trans, lt-or, lt→le}
 use Rattle.solver.specs.Solve.{entry, ranked, rowScaleOf, exchange}
@@ -37,7 +37,7 @@ none : (b c : ℕ) → 0 * b * c ≡ 0
 none b c = ap (λ (x : ℕ). x * c) (zero-mul b) ∙ zero-mul c
 
 -- what holds of equal ones, and of the two zeros, holds of both forms of a magnitude
-unsigned-ind : (P : Float → Float → Type 0) → ((y : Float) → P y y) → ((e : ℤ) → P (fin true 0 e) (fin false 0 e)) → (x : Float) → P (unsigned x) (absOf x)
+unsigned-ind : (P : Float → Float → Type 0) → ((y : Float) → P y y) → ((e : ℤ) → P (fin true 0 e) (fin false 0 e)) → (x : Float) → P (unsignedOf x) (absOf x)
 unfolding lt neg absOf ofBits
 unsigned-ind P p q nan = p nan
 unsigned-ind P p q (inf true) = p (inf false)
@@ -91,24 +91,24 @@ zero-eq e (fin s n d) = rw (none (up e) (down d)) (go s (eqb (n * up d * down e)
     go false true = refl
     go false false = refl
 
-pub le-unsigned : (x z : Float) → le (unsigned x) z ≡ le (absOf x) z
+pub le-unsigned : (x z : Float) → le (unsignedOf x) z ≡ le (absOf x) z
 unfolding le
 le-unsigned x z = unsigned-ind (λ (a b : Float). le a z ≡ le b z) (λ y. refl) (λ e. ap₂ _||_ (lt-zero e z) (eq-zero e z)) x
 
-unsigned-le : (z x : Float) → le z (unsigned x) ≡ le z (absOf x)
+unsigned-le : (z x : Float) → le z (unsignedOf x) ≡ le z (absOf x)
 unfolding le
 unsigned-le z x = unsigned-ind (λ (a b : Float). le z a ≡ le z b) (λ y. refl) (λ e. ap₂ _||_ (zero-lt e z) (zero-eq e z)) x
 
-nan-unsigned : (x : Float) → isNan (unsigned x) ≡ isNan (absOf x)
+nan-unsigned : (x : Float) → isNan (unsignedOf x) ≡ isNan (absOf x)
 unfolding isNan
 nan-unsigned x = unsigned-ind (λ (a b : Float). isNan a ≡ isNan b) (λ y. refl) (λ e. refl) x
 
 -- the code's two tests, a <= b and b != b, of magnitudes of both forms
-module _ (x y a b : Float) (f : a ≡ unsigned x) (g : b ≡ unsigned y) where
+module _ (x y a b : Float) (f : a ≡ unsignedOf x) (g : b ≡ unsignedOf y) where
   tested : ranked (absOf x) (absOf y) ≡ (ne b b || le a b)
   unfolding ranked
   tested =
-      sym (ap₂ _||_ (nan-test b ∙ ap isNan g ∙ nan-unsigned y) (ap₂ le f g ∙ le-unsigned x (unsigned y) ∙ unsigned-le (absOf x) y))
+      sym (ap₂ _||_ (nan-test b ∙ ap isNan g ∙ nan-unsigned y) (ap₂ le f g ∙ le-unsigned x (unsignedOf y) ∙ unsigned-le (absOf x) y))
 
   pub ranked-least : le a b ≡ true → ranked (absOf x) (absOf y) ≡ true
   ranked-least h = tested ∙ ap (λ (t : Bool). ne b b || t) h ∙ or-true (ne b b)
@@ -167,7 +167,7 @@ unfolding maxOf
 larger-max a b h = sym (ap (λ (t : Bool). cond (lt a b || t) b a) (nan-test a ∙ h) ∙ ap (λ (t : Bool). cond t b a) (or-false (lt a b)))
 
 -- one entry: the code's step is the definition's, and keeps the number sized
-pub larger-step : (a x : Float) → Sized a → larger a (unsigned x) ≡ maxOf a (absOf x)
+pub larger-step : (a x : Float) → Sized a → larger a (unsignedOf x) ≡ maxOf a (absOf x)
 larger-step a x s =
     unsigned-ind (λ (u v : Float). larger a u ≡ larger a v) (λ y. refl)
     (λ e. ap (λ (t : Bool). cond t (fin true 0 e) a) (not-below-zero a e (s .above)) ∙ sym (ap (λ (t : Bool). cond t (fin false 0 e) a) (sym (zero-lt e a) ∙ not-below-zero a e (s .above))))

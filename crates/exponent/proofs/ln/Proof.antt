@@ -27,14 +27,14 @@ normal-requires c κs = lifted-no-nan _ (c .before .before .before .if2 .left) (
 
 returns-5 : tie.Need-returns-5
 unfolding lnOf
-returns-5 c = rw (c .before .before .before .before .before .if1 .left, c .before .before .before .before .if2 .left, c .before .before .before .if3 .left, rw div-one-zero at (c .before .before .if4 .left), c .before .if5 .taken) (cc)
+returns-5 c = rw (c .before .before .before .before .before .if1 .left, c .before .before .before .before .if2 .left, c .before .before .before .if3 .left, rw div-one-zero at (c .before .before .if4 .left), c .before .if5 .taken) (c .normal .ensures)
 
 normal-requires-2 : tie.Need-normal-requires-2
 normal-requires-2 c κs = self-same _ (c .before .before .before .before .if1 .left)
 
 returns-6 : tie.Need-returns-6
 unfolding lnOf
-returns-6 c = rw (c .before .before .before .before .before .if1 .left, c .before .before .before .before .if2 .left, c .before .before .before .if3 .left, rw div-one-zero at (c .before .before .if4 .left), c .before .if5 .left) (cc)
+returns-6 c = rw (c .before .before .before .before .before .if1 .left, c .before .before .before .before .if2 .left, c .before .before .before .if3 .left, rw div-one-zero at (c .before .before .if4 .left), c .before .if5 .left) (c .normal2 .ensures)
 
 pub ln-spec : {M : Type 1} → statement M
 ln-spec =

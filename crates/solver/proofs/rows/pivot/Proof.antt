@@ -8,9 +8,8 @@ use denote.Ref.{now}
 use lib.Ieee.{Float}
 use Rattle.solver.specs.Solve.{ranked}
 use Rattle.solver.specs.Rows.{spot, pivotIn}
-use Rattle.laws.specs.Floats.{absOf}
+use Rattle.laws.specs.Floats.{absOf, unsignedOf}
 use Rattle.laws.specs.Loop.{for}
-use Rattle.laws.proofs.Floats.{unsigned}
 use Rattle.laws.proofs.Loops.{again, ended}
 use Rattle.laws.proofs.Choices.{if-true, if-false}
 use Rattle.solver.proofs.Steps.{ranked-least, ranked-nan, ranked-not}
@@ -21,7 +20,7 @@ use Rattle.solver.proofs.rows.pivot.Tie as tie
 
 abbrev Inv-loop : tie.InvT-loop
 Inv-loop m col p₀ top₀ i₀ p top i =
-    (p < 6) × (top ≡ unsigned (spot m p col))
+    (p < 6) × (top ≡ unsignedOf (spot m p col))
     × (for i 6 (λ i p. cond (ranked (absOf (spot m p col)) (absOf (spot m i col))) i p) p ≡ pivotIn col m)
 
 abbrev μ-loop : tie.MeasureT-loop
@@ -32,8 +31,8 @@ unfolding pivotIn
 loop-holds c = (c .before .before .pre, c .unsigned .ensures, refl)
 
 -- the largest magnitude is that of the row
-there : (m : List Float) (col : ℕ) {p q : ℕ} {top : Float} → top ≡ unsigned (spot m p col) → q ≡ p → top ≡ unsigned (spot m q col)
-there m col e h = e ∙ ap (λ (p : ℕ). unsigned (spot m p col)) (sym h)
+there : (m : List Float) (col : ℕ) {p q : ℕ} {top : Float} → top ≡ unsignedOf (spot m p col) → q ≡ p → top ≡ unsignedOf (spot m q col)
+there m col e h = e ∙ ap (λ (p : ℕ). unsignedOf (spot m p col)) (sym h)
 
 loop-again : tie.Need-loop-again Inv-loop μ-loop
 loop-again c =
