@@ -3,6 +3,7 @@ pub mod Deciding
 pub mod Quads
 pub mod Listing
 pub mod Contract
+pub mod RefusalKeepsBuffers
 pub mod EachNumber
 pub mod FitCounts
 pub mod NoBetterFit
