@@ -5,6 +5,8 @@ pub mod Listing
 pub mod Contract
 pub mod RefusalKeepsBuffers
 pub mod EachNumber
+pub mod Conditions
+pub mod ExactlyWhen
 pub mod FitCounts
 pub mod NoBetterFit
 pub mod WeightsOfTheFit

@@ -3,3 +3,4 @@ pub mod Entry
 pub mod End
 pub mod Fit
 pub mod Sized
+pub mod When
