@@ -7,6 +7,7 @@ pub mod RefusalKeepsBuffers
 pub mod EachNumber
 pub mod Conditions
 pub mod ExactlyWhen
+pub mod RefusalCarries
 pub mod FitCounts
 pub mod NoBetterFit
 pub mod WeightsOfTheFit
