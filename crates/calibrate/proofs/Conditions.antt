@@ -8,6 +8,7 @@ use native.Mathlib.Nat.{not-suc-le-zero}
 use lib.Dec.{T, eqb, leb}
 use lib.ListN.{length}
 use lib.Ieee.{Float, lt, le, ofBits}
+use lib.Ieee.Bits.{is-true}
 use borrow.Author.Tests.{eqb-true, eqb-false, leb-true, leb-false}
 use Rattle.laws.specs.Loop.{turns, for}
 use Rattle.laws.specs.Floats.{_+f_, _*f_, f64, +0, at, finite, positive}
@@ -32,6 +33,7 @@ use Rattle.calibrate.specs.Settings.{settingsHold}
 use Rattle.calibrate.specs.Entry.{lengthsHold, sizesHold, passes, allPass, rangeOf}
 use Rattle.calibrate.specs.End.{readingOf, residualAt, addedTo, sumsOf, highestOf, paramsHold, rmseHolds}
 use Rattle.calibrate.specs.Fit.{planOf, limitsOf, fitSearch}
+use Rattle.calibrate.proofs.Known.{lengths-are}
 use Rattle.calibrate.specs.When as when
 use Rattle.calibrate.specs.When.{Some, UnequalOrShort, OverSize, BadObservation, BadSettings, FacelessPass, OutOfDomain, RmseAboveMax, rmseAt}
 
@@ -45,12 +47,8 @@ split false b h x y = x refl
 pub off : {b : Bool} → b ≡ false → b ≡ true → ⊥
 off e h = false-true (sym e ∙ h)
 
-is-T : {b : Bool} → b ≡ true → T b
+pub is-T : {b : Bool} → b ≡ true → T b
 is-T e = subst T (sym e) tt
-
-T-is : (b : Bool) → T b → b ≡ true
-T-is true h = refl
-T-is false h = absurd h
 
 not-T : {b : Bool} → b ≡ false → T (not b)
 not-T e = subst (λ (b : Bool). T (not b)) (sym e) tt
@@ -92,16 +90,13 @@ module _ (ks ws ts : List Float) (room slots : ℕ) where
       (λ e. when.short-capped (leb-false _ _ e))
 
   pub lengths-refute : lengthsHold ks ws ts room slots ≡ true → UnequalOrShort ks ws ts room slots → ⊥
-  unfolding lengthsHold
   lengths-refute h =
-      let p = both (eqb n (length ws) && eqb n (length ts) && leb (n * 4) room) (leb n slots) h in
-      let q = both (eqb n (length ws) && eqb n (length ts)) (leb (n * 4) room) (p .0) in
-      let r = both (eqb n (length ws)) (eqb n (length ts)) (q .0) in
+      let l = lengths-are ks ws ts room slots h in
       elim [
-        | when.unequal-w f ↦ f (eqb-true _ _ (r .0))
-        | when.unequal-weight f ↦ f (eqb-true _ _ (r .1))
-        | when.short-residuals l ↦ let m = leb-true (n * 4) room (q .1) in omega arith
-        | when.short-capped l ↦ let m = leb-true n slots (p .1) in omega arith
+        | when.unequal-w f ↦ f (sym (l .ws-long))
+        | when.unequal-weight f ↦ f (sym (l .ts-long))
+        | when.short-residuals m ↦ omega (arith, l .rooms)
+        | when.short-capped m ↦ omega (arith, l .places)
       ]
 
 -- ---- 11
@@ -133,7 +128,7 @@ module _ (n : ℕ) (c : FitConfig) where
 
 -- of two floats that are no NaN, x is at least y or below it
 below : (x y : Float) → finite x ≡ true → finite y ≡ true → le y x ≡ false → lt x y ≡ true
-below x y f g e = T-is _ (lt-or y x (finite-no-nan y g) (finite-no-nan x f) (not-T e))
+below x y f g e = is-true _ (lt-or y x (finite-no-nan y g) (finite-no-nan x f) (not-T e))
 
 -- and not both
 not-both : (x y : Float) → le y x ≡ true → lt x y ≡ true → ⊥
@@ -176,37 +171,39 @@ module _ (ks ws ts : List Float) where
       let s = some-fails (λ i. passes (at ks i) (at ws i) (at ts i)) (length ks) h in
       (s .0, s .1, passes-fail (at ks (s .0)) (at ws (s .0)) (at ts (s .0)) (s .2))
 
-  pub observations-refute : allPass ks ws ts ≡ true → Bad → ⊥
+  pub observations-pass : allPass ks ws ts ≡ true → (i : ℕ) → i < length ks → passes (at ks i) (at ws i) (at ts i) ≡ true
   unfolding allPass
-  observations-refute h s =
-      passes-refute (at ks (s .0)) (at ws (s .0)) (at ts (s .0)) (none-fails (λ i. passes (at ks i) (at ws i) (at ts i)) (length ks) h (s .0) (s .1)) (s .2)
+  observations-pass = none-fails (λ i. passes (at ks i) (at ws i) (at ts i)) (length ks)
+
+  pub observations-refute : allPass ks ws ts ≡ true → Bad → ⊥
+  observations-refute h s = passes-refute (at ks (s .0)) (at ws (s .0)) (at ts (s .0)) (observations-pass h (s .0) (s .1)) (s .2)
 
 -- ---- 1
 
 module _ (c : FitConfig) where
-  abbrev a : Bool
-  a = leb 5 (c .grid)
+  abbrev wide : Bool
+  wide = leb 5 (c .grid)
 
-  abbrev b : Bool
-  b = leb 5 (c .«min_observations»)
+  abbrev many : Bool
+  many = leb 5 (c .«min_observations»)
 
-  abbrev d : Bool
-  d = positive (c .«sigma_lo») && positive (c .«sigma_hi»)
+  abbrev sigmas : Bool
+  sigmas = positive (c .«sigma_lo») && positive (c .«sigma_hi»)
 
-  abbrev e : Bool
-  e = positive (c .«a_min») && positive (c .«max_rmse_vol»)
+  abbrev levels : Bool
+  levels = positive (c .«a_min») && positive (c .«max_rmse_vol»)
 
-  abbrev f : Bool
-  f = positive (c .«pivot_tolerance») && positive (c .«feasibility_tolerance») && positive (c .«max_weight_ratio»)
+  abbrev steps : Bool
+  steps = positive (c .«pivot_tolerance») && positive (c .«feasibility_tolerance») && positive (c .«max_weight_ratio»)
 
   pub settings-fail : settingsHold c ≡ false → BadSettings c
   unfolding settingsHold
   settings-fail h =
-      split (a && b && d && e && f) (lt (c .«sigma_lo») (c .«sigma_hi»)) h
-      (λ h. split (a && b && d && e) f h
-      (λ h. split (a && b && d) e h
-      (λ h. split (a && b) d h
-      (λ h. split a b h (λ x. when.grid-small (leb-false _ _ x)) (λ x. when.observations-small (leb-false _ _ x)))
+      split (wide && many && sigmas && levels && steps) (lt (c .«sigma_lo») (c .«sigma_hi»)) h
+      (λ h. split (wide && many && sigmas && levels) steps h
+      (λ h. split (wide && many && sigmas) levels h
+      (λ h. split (wide && many) sigmas h
+      (λ h. split wide many h (λ x. when.grid-small (leb-false _ _ x)) (λ x. when.observations-small (leb-false _ _ x)))
       (λ h. split (positive (c .«sigma_lo»)) (positive (c .«sigma_hi»)) h when.sigma-lo-off when.sigma-hi-off))
       (λ h. split (positive (c .«a_min»)) (positive (c .«max_rmse_vol»)) h when.a-min-off when.rmse-off))
       (λ h. split (positive (c .«pivot_tolerance») && positive (c .«feasibility_tolerance»)) (positive (c .«max_weight_ratio»)) h
@@ -215,8 +212,8 @@ module _ (c : FitConfig) where
       when.sigmas-not-rising
 
   record Settings : Type 0 where
-    grid : a ≡ true
-    observations : b ≡ true
+    grid : wide ≡ true
+    observations : many ≡ true
     sigma-lo : positive (c .«sigma_lo») ≡ true
     sigma-hi : positive (c .«sigma_hi») ≡ true
     a-min : positive (c .«a_min») ≡ true
@@ -229,11 +226,11 @@ module _ (c : FitConfig) where
   settings-are : settingsHold c ≡ true → Settings
   unfolding settingsHold
   settings-are h =
-      let p = both (a && b && d && e && f) (lt (c .«sigma_lo») (c .«sigma_hi»)) h in
-      let q = both (a && b && d && e) f (p .0) in
-      let r = both (a && b && d) e (q .0) in
-      let s = both (a && b) d (r .0) in
-      let t = both a b (s .0) in
+      let p = both (wide && many && sigmas && levels && steps) (lt (c .«sigma_lo») (c .«sigma_hi»)) h in
+      let q = both (wide && many && sigmas && levels) steps (p .0) in
+      let r = both (wide && many && sigmas) levels (q .0) in
+      let s = both (wide && many) sigmas (r .0) in
+      let t = both wide many (s .0) in
       let u = both (positive (c .«sigma_lo»)) (positive (c .«sigma_hi»)) (s .1) in
       let v = both (positive (c .«a_min»)) (positive (c .«max_rmse_vol»)) (r .1) in
       let w = both (positive (c .«pivot_tolerance») && positive (c .«feasibility_tolerance»)) (positive (c .«max_weight_ratio»)) (q .1) in
@@ -311,7 +308,7 @@ module _ (c : FitConfig) (ks ws ts : List Float) where
       let w = afterPasses cells plan (s .0) .window in
       let t = yields cells plan (limitOf plan) h .each (s .0) (s .1) in
       let z = pass-stands cells w (c .grid) t in
-      off (s .2 _ _ (z .row) (z .column)) (sym (ap (λ x. x .some) (z .is)) ∙ T-is _ t)
+      off (s .2 _ _ (z .row) (z .column)) (sym (ap (λ x. x .some) (z .is)) ∙ is-true _ t)
 
 -- ---- 8
 

@@ -2,12 +2,13 @@ pub mod Known
 pub mod Deciding
 pub mod Quads
 pub mod Listing
-pub mod Contract
 pub mod RefusalKeepsBuffers
-pub mod EachNumber
 pub mod Conditions
 pub mod ExactlyWhen
 pub mod RefusalCarries
+pub mod RangeNeverBad
+pub mod Contract
+pub mod EachNumber
 pub mod FitCounts
 pub mod NoBetterFit
 pub mod WeightsOfTheFit

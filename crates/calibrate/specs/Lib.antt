@@ -1,6 +1,6 @@
 pub mod Settings
 pub mod Entry
 pub mod End
+pub mod When
 pub mod Fit
 pub mod Sized
-pub mod When
