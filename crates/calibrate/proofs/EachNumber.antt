@@ -1,4 +1,4 @@
--- Each refusal exactly when: the number of every answer is that of the first test that fails, in document 01's order; and what each kind of answer carries.
+-- The number of every answer as one chain of tests in document 01's order, and what each kind of answer is. `ExactlyWhen` says the same by conditions.
 use mathlib.Core.Path.{_≡_, refl, sym, ap, _∙_}
 use mathlib.Core.Bool.{Bool, true, false, cond}
 use mathlib.Core.List.{List}
@@ -9,17 +9,15 @@ use lib.Ieee.{Float}
 use borrow.Author.Tests.{eq-eqb, ne-eqb}
 use Rattle.laws.specs.Choice.{unless}
 use Rattle.laws.proofs.Choices.{if-true, if-false}
-use Rattle.exponent.specs.Exp.{expOf}
-use Rattle.slice.specs.declared.SviSlice.{SviSlice}
 use Rattle.slice.specs.Slice.{numberOf}
-use Rattle.search.specs.declared.Search.{Search}
 use Rattle.weights.specs.Weights.{scaledOf, cappedOf}
 use Rattle.calibrate.specs.declared.FitConfig.{FitConfig}
 use Rattle.calibrate.specs.declared.FitAnswer.{FitAnswer}
 use Rattle.calibrate.specs.declared.Sums.{Sums}
-use Rattle.calibrate.specs.Entry.{rangeOf, entryNumber}
-use Rattle.calibrate.specs.End.{refusedWith, marksAt, sliceOf, sumsOf, highestOf, paramsHold, rmseOf, rmseHolds, acceptedOf, endOf}
-use Rattle.calibrate.specs.Fit.{fitSearch, bestEnd, searchEnd, decidedOf, refusedEarly, cappedAs, fitOf}
+use Rattle.calibrate.specs.Entry.{entryNumber}
+use Rattle.calibrate.specs.End.{refusedWith, sumsOf, paramsHold, rmseOf, rmseHolds, acceptedOf, endOf}
+pub use Rattle.calibrate.specs.When.{found, aMax, sigma, active, fitted}
+use Rattle.calibrate.specs.Fit.{bestEnd, searchEnd, decidedOf, refusedEarly, cappedAs, fitOf}
 
 -- a function of a choice is the choice of its values
 of-cond : {A B : Type 0} (f : A → B) (b : Bool) (x y : A) → f (cond b x y) ≡ cond b (f x) (f y)
@@ -27,36 +25,19 @@ of-cond f true x y = refl
 of-cond f false x y = refl
 
 module _ (tau : Float) (c : FitConfig) (ks ws ts : List Float) where
-  -- ---- what the end of the fit looks at, for scaled weights ts
-
-  abbrev pub found : Search
-  found = fitSearch c ks ws ts
-
-  abbrev pub aMax : Float
-  aMax = highestOf ws (c .«a_min»)
-
-  abbrev pub sigma : Float
-  sigma = expOf (found .found .ls)
-
-  abbrev pub active : List Bool
-  active = marksAt c aMax sigma (found .found .cell)
-
-  abbrev pub fitted : SviSlice
-  fitted = sliceOf tau (rangeOf ks) active (found .found .cell .x) (found .found .m) sigma (c .«a_min») aMax
-
   abbrev pub sums : Sums
-  sums = sumsOf fitted ks ws ts
+  sums = sumsOf (fitted tau c ks ws ts) ks ws ts
 
   abbrev pub rmse : Float
   rmse = rmseOf sums (length ks)
 
   -- 6, 7, 8, 9, or 0
-  pub lateNumber : ℕ
+  unfoldable pub lateNumber : ℕ
   lateNumber =
-      cond (found .refused) 6
-      (cond (found .found .«on_edge») 7
-      (unless (eqb (numberOf fitted) 0) 8
-      (unless (paramsHold c aMax (found .found .cell .objective) sums) 8
+      cond (found tau c ks ws ts .refused) 6
+      (cond (found tau c ks ws ts .found .«on_edge») 7
+      (unless (eqb (numberOf (fitted tau c ks ws ts)) 0) 8
+      (unless (paramsHold c (aMax tau c ks ws ts) (found tau c ks ws ts .found .cell .objective) sums) 8
       (unless (rmseHolds c rmse) 9
       0))))
 
@@ -64,15 +45,15 @@ module _ (tau : Float) (c : FitConfig) (ks ws ts : List Float) where
   unfolding decidedOf searchEnd bestEnd endOf refusedWith acceptedOf lateNumber
   late-number =
       let n : FitAnswer → ℕ = λ a. a .number in
-      let o = found .found .cell .objective in
-      of-cond n (found .refused) _ _
-      ∙ ap (cond (found .refused) 6)
-      (of-cond n (found .found .«on_edge») _ _
-      ∙ ap (cond (found .found .«on_edge») 7)
-      (of-cond n (eqb (numberOf fitted) 0) _ _
-      ∙ ap (unless (eqb (numberOf fitted) 0) 8)
-      (of-cond n (paramsHold c aMax o sums) _ _
-      ∙ ap (unless (paramsHold c aMax o sums) 8)
+      let o = found tau c ks ws ts .found .cell .objective in
+      of-cond n (found tau c ks ws ts .refused) _ _
+      ∙ ap (cond (found tau c ks ws ts .refused) 6)
+      (of-cond n (found tau c ks ws ts .found .«on_edge») _ _
+      ∙ ap (cond (found tau c ks ws ts .found .«on_edge») 7)
+      (of-cond n (eqb (numberOf (fitted tau c ks ws ts)) 0) _ _
+      ∙ ap (unless (eqb (numberOf (fitted tau c ks ws ts)) 0) 8)
+      (of-cond n (paramsHold c (aMax tau c ks ws ts) o sums) _ _
+      ∙ ap (unless (paramsHold c (aMax tau c ks ws ts) o sums) 8)
       (of-cond n (rmseHolds c rmse) _ _))))
 
 module _ (tau : Float) (c : FitConfig) (ks ws ts : List Float) (room slots : ℕ) where

@@ -1,34 +1,25 @@
 -- The weights of a fit that passes the entry checks: sorted they rise, and scaled each lies in (0, 1] and one of them is 1.
 use mathlib.Core.Path.{_≡_, sym, subst}
-use mathlib.Core.Bool.{Bool, true, _&&_}
+use mathlib.Core.Bool.{true, _&&_}
 use mathlib.Core.List.{List}
 use Prim.Native.Nat.{ℕ, _<_}
 use native.Mathlib.Omega.{arith}
-use native.Mathlib.Nat.{not-suc-le-zero}
 use lib.Dec.{T}
 use lib.ListN.{length}
 use lib.Ieee.{Float, le}
 use Rattle.laws.specs.Floats.{+0, at, finite, positive}
 use Rattle.laws.proofs.Choices.{both, passed-one}
 use Rattle.laws.proofs.Floats.{finite-no-nan}
-use Rattle.laws.proofs.Loops.{for-ind, below-next}
 use Rattle.weights.specs.Weights.{sortOf, scaledOf}
 use Rattle.weights.proofs.Sorted.{Number, each-at, Rising, rising-sort}
 use Rattle.weights.proofs.Shares.{Shares, shares}
 use Rattle.calibrate.specs.declared.FitConfig.{FitConfig}
-use Rattle.calibrate.specs.Entry.{lengthsHold, sizesHold, passes, allPass, checksNumber, entryNumber}
+use Rattle.calibrate.specs.Entry.{lengthsHold, sizesHold, allPass, checksNumber, entryNumber}
 use Rattle.calibrate.proofs.Known.{passed, entered}
-
--- check 10 holds at each observation
-each-passes : (ks ws ts : List Float) → allPass ks ws ts ≡ true → (i : ℕ) → i < length ks → passes (at ks i) (at ws i) (at ts i) ≡ true
-unfolding allPass
-each-passes ks ws ts =
-    for-ind (λ i b. b && passes (at ks i) (at ws i) (at ts i)) (λ (n : ℕ) (b : Bool). b ≡ true → (i : ℕ) → i < n → passes (at ks i) (at ws i) (at ts i) ≡ true) (length ks)
-    (λ j b l h e. let g = both b (passes (at ks j) (at ws j) (at ts j)) e in below-next (λ (i : ℕ). passes (at ks i) (at ws i) (at ts i) ≡ true) j (h (g .0)) (g .1)) true
-    (λ e i l. absurd (not-suc-le-zero l))
+use Rattle.calibrate.proofs.Conditions.{observations-pass}
 
 module _ (tau : Float) (c : FitConfig) (ks ws ts : List Float) (room slots : ℕ) (e : entryNumber tau c ks ws ts room slots ≡ 0) where
-  all-pass : checksNumber tau c ks ws ts room slots ≡ 0 → allPass ks ws ts ≡ true
+  pub all-pass : checksNumber tau c ks ws ts room slots ≡ 0 → allPass ks ws ts ≡ true
   unfolding checksNumber
   all-pass h =
       let p = passed-one (lengthsHold ks ws ts room slots) 12 _ (λ e. omega arith) h in
@@ -39,7 +30,7 @@ module _ (tau : Float) (c : FitConfig) (ks ws ts : List Float) (room slots : ℕ
   weight-number i l =
       let k = entered tau c ks ws ts room slots e .0 in
       let s = passed tau c ks ws ts room slots k .sized in
-      let g = each-passes ks ws ts (all-pass k) i (omega (arith, l, s .ts-long)) in
+      let g = observations-pass ks ws ts (all-pass k) i (omega (arith, l, s .ts-long)) in
       let t = both (finite (at ks i) && finite (at ws i) && le +0 (at ws i)) (positive (at ts i)) g .1 in
       finite-no-nan (at ts i) (both (finite (at ts i)) _ t .0)
 
