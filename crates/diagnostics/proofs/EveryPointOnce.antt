@@ -1,31 +1,31 @@
--- Every grid point is one butterfly point or one failure, and never both; the slope's points are the butterfly's. So of every walk, whatever is seen at its points. Assumes nothing.
-use mathlib.Core.Path.{_≡_, refl}
+-- A report of `diagnose`: every grid point is one butterfly point or one failure, and never both; the slope's points are the butterfly's. Assumes nothing.
+use mathlib.Core.Path.{_≡_, refl, sym, ap, _∙_}
 use mathlib.Core.Bool.{true}
-use mathlib.Core.List.{List}
-use Prim.Native.Nat.{ℕ, _+_, _*_, _≤_, _<_}
-use native.Mathlib.Nat.{mul-le-mul-right, add-zero, add-assoc}
+use mathlib.Core.List.{List, []}
+use mathlib.Core.Logic.{_⊎_, inl, inr}
+use Prim.Native.Nat.{ℕ, _+_, _*_, _<_}
 use native.Mathlib.Omega.{arith}
 use lib.ListN.{length}
 use lib.Ieee.{Float}
 use borrow.Author.Tests.{lt-ltb}
-use Rattle.laws.specs.Floats.{at}
-use Rattle.laws.proofs.Loops.{for-ind}
+use Rattle.surface.specs.declared.types.Run.{Run}
+use Rattle.surface.specs.declared.types.ShortExpiryPolicy.{ShortExpiryPolicy}
 use Rattle.diagnostics.specs.declared.grid.Walk.{Walk}
 use Rattle.diagnostics.specs.declared.points.Seen.{Seen}
 use Rattle.diagnostics.specs.declared.points.Seen.the-variants.{Good, Failed}
 use Rattle.diagnostics.specs.declared.report.DiagnosticsConfig.{DiagnosticsConfig}
+use Rattle.diagnostics.specs.declared.report.SurfaceDiagnostics.{SurfaceDiagnostics}
+use Rattle.diagnostics.specs.declared.report.Diagnosed.the-variants.{Done}
 use Rattle.diagnostics.specs.Tally.{oneMore, recordedOf}
-use Rattle.diagnostics.specs.Walk.{State, standing, goodOf, failedOf, visitOf, freshOf, startOf, rowOf, rowTurn, walkOf, walkTurn, PointFn}
+use Rattle.diagnostics.specs.Walk.{State, goodOf, failedOf, visitOf, freshOf, startOf, walkOf}
+use Rattle.diagnostics.specs.OnGrid.{butterflyAt, failureOf, seenBy}
+use Rattle.diagnostics.specs.Diagnostics.{reportOf, diagnoseOf}
+use Rattle.diagnostics.proofs.Walking.{walk-on, Accepted, accepted}
 
 -- m points seen: so many of them are butterfly points, and the others failures
-pub record Tallied (m : ℕ) (s : Walk) : Type 0 where
-  pub each : s .butterfly .points + s .failed ≡ m
-  pub slopes : s .slope .points ≡ s .butterfly .points
-
--- one point more: exactly one of the two counts rises, and by one
-pub record OneOf (s t : Walk) (x : Seen) : Type 0 where
-  pub good : (g w v : Float) → x ≡ Good g w v → (t .butterfly .points ≡ s .butterfly .points + 1) × (t .failed ≡ s .failed)
-  pub bad : (n : ℕ) → x ≡ Failed n → (t .butterfly .points ≡ s .butterfly .points) × (t .failed ≡ s .failed + 1)
+record Tallied (m : ℕ) (s : Walk) : Type 0 where
+  each : s .butterfly .points + s .failed ≡ m
+  slopes : s .slope .points ≡ s .butterfly .points
 
 more-of : (n : ℕ) → n < 18446744073709551615 → oneMore true n ≡ n + 1
 unfolding oneMore
@@ -41,32 +41,30 @@ visit-tallied m st (Good g w v) k tau tol h t =
     record { each = omega (arith, a, p); slopes = omega (arith, b, p, q) }
 visit-tallied m st (Failed n) k tau tol h t = let a = t .each in record { each = omega (arith, a); slopes = t .slopes }
 
-module _ (f : PointFn) (tol : DiagnosticsConfig) (axis : List Float) where
-  row-tallied : (m : ℕ) (k : Float) (st : State) → m + length axis < 18446744073709551615 → Tallied m (st .walk) → Tallied (m + length axis) (rowOf f tol axis k st .walk)
-  unfolding rowOf freshOf
-  row-tallied m k st h t =
-      for-ind (rowTurn f tol axis k) (λ (j : ℕ) (s : State). Tallied (m + j) (s .walk)) (length axis)
-      (λ j s l p. rw (← add-assoc m j 1) (visit-tallied (m + j) s (f k (at axis j)) k (at axis j) tol (omega arith) p))
-      (standing (freshOf (st .walk)) (st .room))
-      (rw add-zero (record { each = t .each; slopes = t .slopes }))
+module _ (run : Run) (policy : ShortExpiryPolicy) (ks taus : List Float) (tol : DiagnosticsConfig) (room : List Float) (d : SurfaceDiagnostics) (done : diagnoseOf run policy ks taus tol room .answer ≡ Done d) where
+  a : Accepted run policy ks taus tol room d
+  a = accepted run policy ks taus tol room d done
 
-  -- every grid point is a butterfly point or a failure; slope points are butterfly points
-  pub every-point : (ks room : List Float) → length ks * length axis < 18446744073709551615 → Tallied (length ks * length axis) (walkOf f tol ks axis room .walk)
-  unfolding walkOf startOf
-  every-point ks room h =
-      for-ind (walkTurn f tol ks axis) (λ (i : ℕ) (s : State). Tallied (i * length axis) (s .walk)) (length ks)
-      (λ i s l p. rw (next i) (row-tallied (i * length axis) (at ks i) s (below i l) p))
-      (standing startOf room)
-      (record { each = omega arith; slopes = refl })
-    where
-      next : (i : ℕ) → (i + 1) * length axis ≡ i * length axis + length axis
-      next i = omega arith
+  tallied : Tallied (length ks * length taus) (walkOf (seenBy run policy) tol ks taus room .walk)
+  unfolding startOf freshOf
+  tallied =
+      let few = a .few in
+      walk-on (seenBy run policy) tol (λ k tau. failureOf k tau (seenBy run policy k tau)) (λ (m : ℕ) (l : List Float) (st : State). Tallied m (st .walk)) ks taus
+      (λ m l st k tau h p. visit-tallied m st (seenBy run policy k tau) k tau tol (omega (arith, h, few)) p)
+      (λ m l st p. record { each = p .each; slopes = p .slopes })
+      room
+      (record { each = refl; slopes = refl })
 
-      below : (i : ℕ) → i < length ks → i * length axis + length axis < 18446744073709551615
-      below i l = let a : (i + 1) * length axis ≤ length ks * length axis = mul-le-mul-right (length axis) (omega arith) in omega (arith, a, h)
+  -- every grid point is counted once
+  pub every-point : d .butterfly .points + d .«evaluation_failures» ≡ length ks * length taus
+  unfolding reportOf
+  every-point = ap (λ (d : SurfaceDiagnostics). d .butterfly .points + d .«evaluation_failures») (a .report) ∙ tallied .each
 
--- never both
-pub one-of : (st : State) (x : Seen) (k tau : Float) (tol : DiagnosticsConfig) → st .walk .butterfly .points < 18446744073709551615 → OneOf (st .walk) (visitOf st x k tau tol .walk) x
-unfolding visitOf goodOf failedOf recordedOf
-one-of st (Good g w v) k tau tol h = record { good = λ a b c e. (more-of (st .walk .butterfly .points) h, refl); bad = λ n e. let z : _≡_ {A = ℕ} 0 1 = cc in absurd (omega arith) }
-one-of st (Failed n) k tau tol h = record { good = λ a b c e. let z : _≡_ {A = ℕ} 0 1 = cc in absurd (omega arith); bad = λ m e. (refl, refl) }
+  pub slope-points : d .«calendar_slope» .points ≡ d .butterfly .points
+  unfolding reportOf
+  slope-points = ap (λ (d : SurfaceDiagnostics). d .«calendar_slope» .points) (a .report) ∙ tallied .slopes ∙ ap (λ (d : SurfaceDiagnostics). d .butterfly .points) (sym (a .report))
+
+-- never both: a point has a butterfly value and no failure, or a failure, three numbers, and no butterfly value
+pub one-of : (k tau : Float) (x : Seen) → ((length (butterflyAt k tau x) ≡ 1) × (failureOf k tau x ≡ [])) ⊎ ((butterflyAt k tau x ≡ []) × (length (failureOf k tau x) ≡ 3))
+one-of k tau (Good g w v) = inl (refl, refl)
+one-of k tau (Failed n) = inr (refl, refl)

@@ -1,41 +1,29 @@
--- The failures stand at the front of the lent room in walking order, k outside and tau inside, three numbers each (k, tau, the number); the room beyond them is as it was.
--- So of every walk, whatever is seen at its points. Assumes nothing.
-use mathlib.Core.Path.{_≡_, refl, sym, ap, subst, _∙_}
-use mathlib.Core.List.{List, [], _∷_, _++_}
-use Prim.Native.Nat.{ℕ, suc, _+_, _*_, _-_, _≤_, _<_}
-use native.Mathlib.Nat.{mul-le-mul-right}
+-- A report of `diagnose`: its failures stand at the front of the lent room in walking order, k outside and tau inside, three numbers each (k, tau, the number), and the room beyond them is as it was. Assumes nothing.
+use mathlib.Core.Path.{_≡_, refl, sym, ap, _∙_}
+use mathlib.Core.List.{List, [], _∷_, _++_, append-nil}
+use Prim.Native.Nat.{ℕ, _+_, _*_, _≤_}
 use native.Mathlib.Omega.{arith}
 use lib.ListN.{length, drop, set, length-append}
 use lib.Ieee.{Float, nan}
-use Rattle.laws.specs.Floats.{num, at}
-use Rattle.laws.specs.Loop.{turns, for}
+use Rattle.laws.specs.Floats.{num}
 use Rattle.laws.specs.Room.{atFront}
-use Rattle.laws.proofs.Loops.{turns-last, for-ind}
 use Rattle.laws.proofs.Rooms.{put-next}
+use Rattle.surface.specs.declared.types.Run.{Run}
+use Rattle.surface.specs.declared.types.ShortExpiryPolicy.{ShortExpiryPolicy}
 use Rattle.diagnostics.specs.declared.points.Seen.{Seen}
 use Rattle.diagnostics.specs.declared.points.Seen.the-variants.{Good, Failed}
 use Rattle.diagnostics.specs.declared.report.DiagnosticsConfig.{DiagnosticsConfig}
-use Rattle.diagnostics.specs.Walk.{State, standing, goodOf, failedOf, failureAt, visitOf, freshOf, startOf, rowOf, rowTurn, walkOf, walkTurn, PointFn}
-
--- what a point leaves in the room
-abbrev pub failureOf : Float → Float → Seen → List Float
-failureOf k tau (Good g w v) = []
-failureOf k tau (Failed n) = k ∷ tau ∷ num n ∷ []
+use Rattle.diagnostics.specs.declared.report.SurfaceDiagnostics.{SurfaceDiagnostics}
+use Rattle.diagnostics.specs.declared.report.Diagnosed.the-variants.{Done}
+use Rattle.diagnostics.specs.Walk.{State, goodOf, failedOf, failureAt, visitOf, freshOf, startOf, walkOf}
+use Rattle.diagnostics.specs.OnGrid.{failureOf, failuresOn, seenBy}
+use Rattle.diagnostics.specs.Diagnostics.{reportOf, diagnoseOf}
+use Rattle.diagnostics.proofs.Walking.{walk-on, Accepted, accepted}
 
 -- the list stands at the front of what the room held, and its length is three numbers a failure
 record Put (l before : List Float) (st : State) : Type 0 where
   written : st .room ≡ atFront l before
   long : length l ≡ 3 * st .walk .failed
-
-last-turn : {S : Type 0} (g : ℕ → S → S) (j : ℕ) (s : S) → turns g (j + 1) 0 s ≡ g j (turns g j 0 s)
-last-turn g j s =
-    let a : j + 1 ≡ suc j = omega arith in
-    let b : 0 + j ≡ j = omega arith in
-    ap (λ (q : ℕ). turns g q 0 s) a ∙ turns-last g j 0 s ∙ ap (λ (q : ℕ). g q (turns g j 0 s)) b
-
-no-more : (l : List Float) → l ++ [] ≡ l
-no-more [] = refl
-no-more (x ∷ l) = ap (λ (t : List Float). x ∷ t) (no-more l)
 
 three-more : (l : List Float) (a b c : Float) → ((l ++ (a ∷ [])) ++ (b ∷ [])) ++ (c ∷ []) ≡ l ++ (a ∷ b ∷ c ∷ [])
 three-more [] a b c = refl
@@ -56,8 +44,8 @@ visit-put : (st : State) (x : Seen) (k tau : Float) (tol : DiagnosticsConfig) (l
 unfolding visitOf goodOf failedOf failureAt
 visit-put st (Good g w v) k tau tol l before h p =
     record {
-      written = p .written ∙ ap (λ (t : List Float). atFront t before) (sym (no-more l));
-      long = ap length (no-more l) ∙ p .long;
+      written = p .written ∙ ap (λ (t : List Float). atFront t before) (sym (append-nil l));
+      long = ap length (append-nil l) ∙ p .long;
     }
 visit-put st (Failed n) k tau tol l before h p =
     let e : length (l ++ (k ∷ tau ∷ num n ∷ [])) ≡ 3 * st .walk .failed + 3 = length-append l (k ∷ tau ∷ num n ∷ []) ∙ ap (λ (q : ℕ). q + 3) (p .long) in
@@ -74,56 +62,28 @@ unfolding visitOf goodOf failedOf
 visit-few st (Good g w v) k tau tol = omega arith
 visit-few st (Failed n) k tau tol = omega arith
 
-module _ (f : PointFn) (axis : List Float) where
-  abbrev pub failuresTurn : Float → ℕ → List Float → List Float
-  failuresTurn k j l = l ++ failureOf k (at axis j) (f k (at axis j))
+module _ (run : Run) (policy : ShortExpiryPolicy) (ks taus : List Float) (tol : DiagnosticsConfig) (room : List Float) (d : SurfaceDiagnostics) (done : diagnoseOf run policy ks taus tol room .answer ≡ Done d) where
+  a : Accepted run policy ks taus tol room d
+  a = accepted run policy ks taus tol room d done
 
-  -- the failures at one k, over the tau axis
-  abbrev pub failuresAt : List Float → ℕ → List Float → List Float
-  failuresAt ks i l = for 0 (length axis) (failuresTurn (at ks i)) l
+  put : Put (failuresOn (seenBy run policy) ks taus) room (walkOf (seenBy run policy) tol ks taus room)
+  unfolding startOf freshOf
+  put =
+      let enough = a .enough in
+      walk-on (seenBy run policy) tol (λ k tau. failureOf k tau (seenBy run policy k tau)) (λ (m : ℕ) (l : List Float) (st : State). Put l room st × (st .walk .failed ≤ m)) ks taus
+      (λ m l st k tau h p. (
+        visit-put st (seenBy run policy k tau) k tau tol l room (omega (arith, h, enough, p .1)) (p .0),
+        omega (arith, visit-few st (seenBy run policy k tau) k tau tol, p .1),
+      ))
+      (λ m l st p. (record { written = p .0 .written; long = p .0 .long }, p .1))
+      room
+      (record { written = refl; long = refl }, omega arith)
+      .0
 
-  -- all failures, in walking order
-  abbrev pub allFailures : List Float → List Float
-  allFailures ks = for 0 (length ks) (failuresAt ks) []
+  pub failures-in-order : diagnoseOf run policy ks taus tol room .room ≡ atFront (failuresOn (seenBy run policy) ks taus) room
+  failures-in-order = a .after ∙ put .written
 
-  module _ (tol : DiagnosticsConfig) (before : List Float) where
-    row-put : (k : Float) (m : ℕ) (l : List Float) (st : State) → 3 * (m + length axis) ≤ length before → st .walk .failed ≤ m → Put l before st
-        → Put (for 0 (length axis) (failuresTurn k) l) before (rowOf f tol axis k st) × (rowOf f tol axis k st .walk .failed ≤ m + length axis)
-    unfolding rowOf freshOf turns
-    row-put k m l st h few p =
-        let whole : length axis ≡ length axis - 0 = omega arith in
-        let r = for-ind (rowTurn f tol axis k) Upto (length axis) step (standing (freshOf (st .walk)) (st .room)) (record { written = p .written; long = p .long }, omega (arith, few)) in
-        (subst (λ (q : ℕ). Put (turns (failuresTurn k) q 0 l) before (rowOf f tol axis k st)) whole (r .0), r .1)
-      where
-        Upto : ℕ → State → Type 0
-        Upto j s = Put (turns (failuresTurn k) j 0 l) before s × (s .walk .failed ≤ m + j)
-
-        step : (j : ℕ) (s : State) → j < length axis → Upto j s → Upto (j + 1) (rowTurn f tol axis k j s)
-        step j s lt u = (
-          rw (last-turn (failuresTurn k) j l) (visit-put s (f k (at axis j)) k (at axis j) tol (turns (failuresTurn k) j 0 l) before (omega (arith, h, u .1, lt)) (u .0)),
-          omega (arith, visit-few s (f k (at axis j)) k (at axis j) tol, u .1),
-        )
-
-    walk-put : (ks : List Float) → 3 * (length ks * length axis) ≤ length before → Put (allFailures ks) before (walkOf f tol ks axis before)
-    unfolding walkOf startOf turns
-    walk-put ks h =
-        let whole : length ks ≡ length ks - 0 = omega arith in
-        subst (λ (q : ℕ). Put (turns (failuresAt ks) q 0 []) before (walkOf f tol ks axis before)) whole
-        (for-ind (walkTurn f tol ks axis) Upto (length ks) step (standing startOf before) (record { written = refl; long = refl }, omega arith) .0)
-      where
-        Upto : ℕ → State → Type 0
-        Upto i s = Put (turns (failuresAt ks) i 0 []) before s × (s .walk .failed ≤ i * length axis)
-
-        step : (i : ℕ) (s : State) → i < length ks → Upto i s → Upto (i + 1) (walkTurn f tol ks axis i s)
-        step i s l u =
-            let a : (i + 1) * length axis ≤ length ks * length axis = mul-le-mul-right (length axis) (omega (arith, l)) in
-            let b : (i + 1) * length axis ≡ i * length axis + length axis = omega arith in
-            let r = row-put (at ks i) (i * length axis) (turns (failuresAt ks) i 0 []) s (omega (arith, a, b, h)) (u .1) (u .0) in
-            (rw (last-turn (failuresAt ks) i []) (r .0), omega (arith, r .1, b))
-
-    pub failures-in-order : (ks : List Float) → 3 * (length ks * length axis) ≤ length before → walkOf f tol ks axis before .room ≡ atFront (allFailures ks) before
-    failures-in-order ks h = walk-put ks h .written
-
-    -- and the count of failures is that of the list
-    pub failures-counted : (ks : List Float) → 3 * (length ks * length axis) ≤ length before → length (allFailures ks) ≡ 3 * walkOf f tol ks axis before .walk .failed
-    failures-counted ks h = walk-put ks h .long
+  -- and the report counts them
+  pub failures-counted : length (failuresOn (seenBy run policy) ks taus) ≡ 3 * d .«evaluation_failures»
+  unfolding reportOf
+  failures-counted = put .long ∙ ap (λ (d : SurfaceDiagnostics). 3 * d .«evaluation_failures») (sym (a .report))

@@ -1,2 +1,3 @@
--- M6 of the marked examples.
+-- A slice's tests come first; M6 of the marked examples.
+pub mod TestsFirst
 pub mod Marked

@@ -1,6 +1,7 @@
--- A surface, in reading order: the run of records and its tests, the lookup of a tau, the axes of a grid, the answers.
+-- A surface, in reading order: the run of records and its tests, the lookup of a tau, the axes of a grid, the answers, the last node.
 pub mod Runs
 pub mod Lookup
 pub mod Axis
 pub mod Surface
+pub mod Last
 pub mod Inner

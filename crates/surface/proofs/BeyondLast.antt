@@ -1,0 +1,340 @@
+-- 37: on a valid surface, at a point that passes 34 and 35, `bracket`, `region` and `total_variance` refuse with 37 exactly where tau is beyond the last node and not within its tolerance, whatever the policy.
+-- A tau beyond the last node is within no earlier node's tolerance, which is at most a quarter of the gap to the next node. Assumes nothing.
+use mathlib.Core.Path.{_≡_, refl, sym, ap, subst, _∙_}
+use mathlib.Core.Bool.{Bool, true, false, not, _&&_, _||_, cond}
+use mathlib.Core.List.{List}
+use mathlib.Core.Logic.{_↔_, ⊎-elim}
+use Prim.Native.Nat.{ℕ, zero, suc, _+_, _-_, _*_, _≤_, _<_}
+use native.Mathlib.Nat.{eq-or-lt-of-le}
+use native.Mathlib.Omega.{arith}
+use lib.Dec.{T, eqb, ltb}
+use lib.IntN.{negsuc}
+use lib.Ieee.{Float, nan, inf, fin, binary64, unlike, neg, mul, sub, lt, le, ne, isNan, fits, ofBits}
+use lib.Ieee.Positive.{num, den, positive, den-pos, own-value, le→cross}
+use borrow.Author.Tests.{le-ltb, ltb-true, ltb-false}
+use Rattle.laws.specs.Floats.{_-f_, _*f_, +0, quarter, at, finite, minOf}
+use Rattle.laws.specs.Loop.{search-on, first}
+use Rattle.laws.proofs.Choices.{cond-ind, cond-test, if-false, both, passed-one, number-goes}
+use Rattle.laws.proofs.Floats.{self-same}
+use Rattle.laws.proofs.Ops.{apply, neg-value, mul-value, add-value}
+use Rattle.laws.proofs.Order.{lt-le-trans, lt-not-self, lt→le, le-self}
+use Rattle.laws.proofs.Signs.{Signed, signed-no-nan, round-signed, mul-signed}
+use Rattle.slice.specs.declared.SviSlice.{SviSlice}
+use Rattle.slice.specs.declared.Evaluated.{Evaluated}
+use Rattle.slice.specs.declared.Evaluated.the-variants as evaluated
+use Rattle.slice.specs.Slice.{three, valuesOf, judgedOf, evalRaw}
+use Rattle.point.specs.declared.Total.the-variants as total
+use Rattle.point.specs.declared.TotalVariance.{TotalVariance}
+use Rattle.point.specs.Point.{pointNumber, totalNumber, totalOf}
+use Rattle.surface.specs.declared.types.Run.{Run}
+use Rattle.surface.specs.declared.types.ShortExpiryPolicy.{ShortExpiryPolicy}
+use Rattle.surface.specs.declared.types.ShortExpiryPolicy.the-variants.{Reject, ConstantVol}
+use Rattle.surface.specs.declared.types.Bracket.{Bracket}
+use Rattle.surface.specs.declared.types.Bracket.the-variants.{Segment, Short, Refused}
+use Rattle.surface.specs.declared.types.Region.the-variants as region
+use Rattle.surface.specs.Runs.{sliceAt, tausOf, checkRun}
+use Rattle.surface.specs.Lookup.{nodeTolerance, beforeOf, afterOf, toleranceOf, nearOf, nearAt, nodeOf, beyondAt, beyondOf, onNode, shortOf, insideOf, lookupOf, bracketOf}
+use Rattle.surface.specs.Surface.{bothHold, regionBy, regionIn, mixedOf, grownOf, blendOf, scaledOf, segmentOf, firstOf, varianceIn, varianceAt, tolsOf, bracketIn, bracketRun, regionRun, totalRun}
+use Rattle.surface.specs.Last.{lastTolerance, BeyondLast, TausFit}
+use Rattle.surface.proofs.Spans.{from-true, to-false, positive-no-nan, not-below, positive-of, gap-units, quarter-signed, out-of-reach, within-any}
+use Rattle.surface.proofs.ValidRun.{tau-positive, Valid, valid-run}
+
+-- ---- searches
+
+search-none : (p : ℕ → Bool) (k i : ℕ) → ((j : ℕ) → i ≤ j → j < i + k → p j ≡ false) → search-on p k i ≡ i + k
+unfolding search-on
+search-none p zero i h = omega arith
+search-none p (suc k) i h =
+    ap (λ (b : Bool). cond b i (search-on p k (i + 1))) (h i (omega arith) (omega arith))
+    ∙ search-none p k (i + 1) (λ j l m. h j (omega (arith, l)) (omega (arith, m)))
+    ∙ (let e : i + 1 + k ≡ i + suc k = omega arith in e)
+
+none-found : (p : ℕ → Bool) (k i : ℕ) → i + k ≤ search-on p k i → (j : ℕ) → i ≤ j → j < i + k → p j ≡ false
+unfolding search-on
+none-found p zero i h j l m = absurd (omega (arith, l, m))
+none-found p (suc k) i h j l m = go (p i) refl h (λ g q. none-found p k (i + 1) g j q (omega (arith, m)))
+  where
+    go : (b : Bool) → p i ≡ b → i + suc k ≤ cond b i (search-on p k (i + 1)) → (i + 1 + k ≤ search-on p k (i + 1) → i + 1 ≤ j → p j ≡ false) → p j ≡ false
+    go true e h rest = absurd (omega (arith, h))
+    go false e h rest = ⊎-elim (λ (q : i ≡ j). subst (λ (j : ℕ). p j ≡ false) q e) (λ (q : i < j). rest (omega (arith, h)) (omega (arith, q))) (eq-or-lt-of-le l)
+
+-- ---- what is no 37
+
+node-no : (j : ℕ) → onNode j ≡ Refused 37 → ⊥
+unfolding onNode
+node-no j e = cond-ind (λ (b : Bracket). b ≡ Refused 37 → ⊥) (eqb j 0) (λ e. let z : _≡_ {A = ℕ} 0 1 = cc in omega arith) (λ e. let z : _≡_ {A = ℕ} 0 1 = cc in omega arith) e
+
+short-no : (policy : ShortExpiryPolicy) → shortOf policy ≡ Refused 37 → ⊥
+short-no Reject e = let z : _≡_ {A = ℕ} 36 37 = cc in omega (arith, z)
+short-no ConstantVol e = let z : _≡_ {A = ℕ} 0 1 = cc in omega arith
+
+found-none : (a b : Bool) (j : ℕ) (policy : ShortExpiryPolicy) (rest : Bracket) → cond a (onNode j) (cond b (shortOf policy) rest) ≡ Refused 37 → (a ≡ false) × (rest ≡ Refused 37)
+found-none true b j policy rest e = absurd (node-no j e)
+found-none false true j policy rest e = absurd (short-no policy e)
+found-none false false j policy rest e = (refl, e)
+
+none-beyond : (b : Bool) (lo hi : ℕ) (x : Float) → cond b (Segment lo hi x) (Refused 37) ≡ Refused 37 → b ≡ false
+none-beyond true lo hi x e = let z : _≡_ {A = ℕ} 0 1 = cc in absurd (omega arith)
+none-beyond false lo hi x e = refl
+
+-- an evaluation refuses with 29 to 31, a total variance with 38 or 39
+eval-no : (s : SviSlice) (k : Float) → evalRaw s k ≡ evaluated.Refused 37 → ⊥
+unfolding evalRaw judgedOf
+eval-no s k =
+    cond-ind No (finite k)
+    (cond-ind No (three (valuesOf s k .w) (valuesOf s k .«w_k») (valuesOf s k .«w_kk»))
+    (cond-ind No (lt +0 (s .b) && le (valuesOf s k .«w_kk») +0) (λ e. let z : _≡_ {A = ℕ} 31 37 = cc in omega (arith, z)) (λ e. let z : _≡_ {A = ℕ} 0 1 = cc in omega arith))
+    (λ e. let z : _≡_ {A = ℕ} 30 37 = cc in omega (arith, z)))
+    (λ e. let z : _≡_ {A = ℕ} 29 37 = cc in omega (arith, z))
+  where
+    No : Evaluated → Type 0
+    No r = r ≡ evaluated.Refused 37 → ⊥
+
+number-no : (v : TotalVariance) → totalNumber v ≡ 37 → ⊥
+unfolding totalNumber
+number-no v =
+    cond-ind No (finite (v .w) && lt +0 (v .w))
+    (cond-ind No ((finite (v .«w_k») && finite (v .«w_kk»)) && finite (v .«w_tau»)) (λ e. omega (arith, e)) (λ e. omega (arith, e)))
+    (λ e. omega (arith, e))
+  where
+    No : ℕ → Type 0
+    No n = n ≡ 37 → ⊥
+
+total-no : (w wk wkk wtau : Float) → totalOf w wk wkk wtau ≡ total.Refused 37 → ⊥
+unfolding totalOf
+total-no w wk wkk wtau = go (eqb (totalNumber v) 0) (totalNumber v) (number-no v)
+  where
+    v : TotalVariance
+    v = record { w = w; «w_k» = wk; «w_kk» = wkk; «w_tau» = wtau }
+
+    go : (b : Bool) (n : ℕ) → (n ≡ 37 → ⊥) → cond b (total.At v) (total.Refused n) ≡ total.Refused 37 → ⊥
+    go true n f e = let z : _≡_ {A = ℕ} 0 1 = cc in omega arith
+    go false n f e = f (let z : n ≡ 37 = cc in z)
+
+blend-no : (l h : Evaluated) (x gap : Float) → (l ≡ evaluated.Refused 37 → ⊥) → (h ≡ evaluated.Refused 37 → ⊥) → blendOf l h x gap ≡ total.Refused 37 → ⊥
+unfolding mixedOf
+blend-no (evaluated.Refused m) h x gap p q e = p (let z : m ≡ 37 = cc in ap evaluated.Refused z)
+blend-no (evaluated.At l) (evaluated.Refused m) x gap p q e = q (let z : m ≡ 37 = cc in ap evaluated.Refused z)
+blend-no (evaluated.At l) (evaluated.At h) x gap p q e = total-no _ _ _ _ e
+
+scaled-no : (r : Evaluated) (tau first : Float) → (r ≡ evaluated.Refused 37 → ⊥) → scaledOf r tau first ≡ total.Refused 37 → ⊥
+unfolding grownOf
+scaled-no (evaluated.Refused m) tau first p e = p (let z : m ≡ 37 = cc in ap evaluated.Refused z)
+scaled-no (evaluated.At v) tau first p e = total-no _ _ _ _ e
+
+-- ---- tolerances
+
+min-le : (a q : Float) → T (not (isNan q)) → T (le (minOf a q) q)
+unfolding minOf
+min-le a q n = go (lt q a) (ne a a) refl refl
+  where
+    go : (s t : Bool) → lt q a ≡ s → ne a a ≡ t → T (le (cond (s || t) q a) q)
+    go true t e h = le-self q n
+    go false true e h = le-self q n
+    go false false e h = not-below a q (self-same a h) n e
+
+min-signed : (a q : Float) → Signed false a → Signed false q → Signed false (minOf a q)
+unfolding minOf
+min-signed a q h k = cond-ind (Signed false) (lt q a || ne a a) k h
+
+tolerance-positive : T (positive nodeTolerance)
+unfolding ofBits
+tolerance-positive = tt
+
+product-signed : (x y : Float) → T (positive x) → T (positive y) → Signed false (x *f y)
+product-signed x y p q = subst (Signed false) (sym (mul-value x y false false (num x) (den x) (num y) (den y) (den-pos x) (den-pos y) (own-value x p) (own-value y q))) (round-signed binary64 false _ _)
+
+quarter-of : (g : Float) → Signed false g → Signed false (quarter *f g)
+unfolding mul ofBits
+quarter-of nan h = absurd h
+quarter-of (inf t) h = ap (unlike false) h
+quarter-of (fin t m e) h = subst (λ (b : Bool). Signed b (quarter *f fin t m e)) (ap (unlike false) h) (mul-signed false 1 (negsuc 1) t m e)
+
+gap-signed : (x y : Float) → T (positive x) → T (positive y) → T (le x y) → Signed false (y -f x)
+unfolding sub
+gap-signed x y p q h = subst (Signed false) (sym (add-value y (neg x) true (num y) (den y) (num x) (den x) (den-pos y) (den-pos x) (own-value y q) (neg-value x (num x) (den x) (own-value x p)) (le→cross x y p q h))) (round-signed binary64 false (apply true (num y * den x) (num x * den y)) (den y * den x))
+
+-- ---- one valid run, one good point
+
+module _ (run : Run) (valid : checkRun run ≡ 0) (k tau : Float) (point : pointNumber k tau ≡ 0) where
+  v : Valid run
+  v = valid-run run valid
+
+  abbrev n : ℕ
+  n = run .count
+
+  abbrev taus : List Float
+  taus = tausOf (run .recs)
+
+  tau-above : T (positive tau)
+  unfolding pointNumber
+  tau-above =
+      let a = passed-one (finite k) 34 _ (λ e. omega (arith, e)) point in
+      let b = passed-one (finite tau && lt +0 tau) 35 0 (λ e. omega (arith, e)) (a .1) in
+      let c = both (finite tau) (lt +0 tau) (b .0) in
+      positive-of tau (c .0) (from-true (c .1))
+
+  node-above : (i : ℕ) → i < n → T (positive (at taus i))
+  node-above i l = subst (λ (x : Float). T (positive x)) (sym (v .tau-at i l)) (tau-positive (sliceAt (run .recs) i) (v .good i l))
+
+  within : n - 1 < n
+  within = let two = v .two in omega (arith, two)
+
+  -- the node before the last is below it
+  step : T (le (at taus (n - 1 - 1)) (at taus (n - 1)))
+  step =
+      let two = v .two in
+      let e : n - 1 - 1 + 1 ≡ n - 1 = omega (arith, two) in
+      lt→le _ _ (from-true (subst (λ (j : ℕ). lt (at taus (n - 1 - 1)) (at taus j) ≡ true) e (v .rises (n - 1 - 1) (omega (arith, two)))))
+
+  last-signed : Signed false (at (tolsOf run) (n - 1))
+  unfolding toleranceOf afterOf beforeOf
+  last-signed =
+      let two = v .two in
+      let share = product-signed nodeTolerance (at taus (n - 1)) tolerance-positive (node-above (n - 1) within) in
+      let gap = quarter-of _ (gap-signed (at taus (n - 1 - 1)) (at taus (n - 1)) (node-above (n - 1 - 1) (omega (arith, two))) (node-above (n - 1) within) step) in
+      subst (Signed false) (sym (v .tol-at (n - 1) within))
+      (cond-test (Signed false) (ltb (n - 1 + 1) n)
+      (λ e. let l = ltb-true (n - 1 + 1) n e in absurd (omega (arith, l, two)))
+      (λ e. cond-ind (Signed false) (eqb (n - 1) 0) share (min-signed _ _ share gap)))
+
+  -- a tau that is not below the last node, and not within its tolerance, is greater
+  above : nearAt taus (tolsOf run) tau (n - 1) ≡ false → lt tau (at taus (n - 1)) ≡ false → lt (at taus (n - 1)) tau ≡ true
+  above far past = go (lt (at taus (n - 1)) tau) refl
+    where
+      go : (b : Bool) → lt (at taus (n - 1)) tau ≡ b → b ≡ true
+      go true e = refl
+      go false e =
+          let last = node-above (n - 1) within in
+          let low = not-below (at taus (n - 1)) tau (positive-no-nan _ last) (positive-no-nan _ tau-above) past in
+          let high = not-below tau (at taus (n - 1)) (positive-no-nan _ tau-above) (positive-no-nan _ last) e in
+          absurd (subst T far (within-any (at taus (n - 1)) tau last tau-above low high (at (tolsOf run) (n - 1)) last-signed))
+
+  -- ---- beyond the last node every node is passed, and none is near
+
+  module _ (fit : TausFit run) (far : BeyondLast run tau) where
+    beyond-last : T (lt (at taus (n - 1)) tau)
+    beyond-last = from-true (subst (λ (x : Float). lt x tau ≡ true) (sym (v .tau-at (n - 1) within)) (far .greater))
+
+    below : (d i : ℕ) → i + d + 1 ≡ n → T (lt (at taus i) tau)
+    below zero i e = subst (λ (j : ℕ). T (lt (at taus j) tau)) (let z : n - 1 ≡ i = omega (arith, e) in z) beyond-last
+    below (suc d) i e = lt-le-trans (at taus i) (at taus (i + 1)) tau (from-true (v .rises i (omega (arith, e)))) (lt→le _ _ (below d (i + 1) (omega (arith, e))))
+
+    each-below : (i : ℕ) → i < n → T (lt (at taus i) tau)
+    each-below i l = below (n - 1 - i) i (omega (arith, l))
+
+    passed : (i : ℕ) → i < n → lt tau (at taus i) ≡ false
+    passed i l = to-false _ (λ h. lt-not-self tau (lt-le-trans tau (at taus i) tau h (lt→le _ _ (each-below i l))))
+
+    module _ (i : ℕ) (l : i + 1 < n) where
+      fits-at : (j : ℕ) → j < n → T (fits binary64 (at taus j))
+      fits-at j m = subst (λ (x : Float). T (fits binary64 x)) (sym (v .tau-at j m)) (fit j m)
+
+      here : i < n
+      here = omega (arith, l)
+
+      rising : T (lt (at taus i) (at taus (i + 1)))
+      rising = from-true (v .rises i l)
+
+      tolerance-small : T (le (at (tolsOf run) i) (quarter *f (at taus (i + 1) -f at taus i)))
+      unfolding toleranceOf afterOf
+      tolerance-small =
+          let q = quarter *f (at taus (i + 1) -f at taus i) in
+          let real : T (not (isNan q)) = signed-no-nan false q (quarter-signed _ (gap-units (at taus i) (at taus (i + 1)) (fits-at i here) (fits-at (i + 1) l) (node-above i here) (node-above (i + 1) l) rising)) in
+          subst (λ (t : Float). T (le t q)) (sym (v .tol-at i here))
+          (cond-test (λ (t : Float). T (le t q)) (ltb (i + 1) n)
+          (λ e. min-le _ q real)
+          (λ e. let m = ltb-false (i + 1) n e in absurd (omega (arith, l, m))))
+
+      not-near-earlier : nearAt taus (tolsOf run) tau i ≡ false
+      not-near-earlier =
+          out-of-reach (at taus i) (at taus (i + 1)) (fits-at i here) (fits-at (i + 1) l) (node-above i here) (node-above (i + 1) l) rising
+          tau tau-above (lt→le _ _ (each-below (i + 1) l)) (at (tolsOf run) i) tolerance-small
+
+    not-near : (i : ℕ) → i < n → nearAt taus (tolsOf run) tau i ≡ false
+    not-near i l =
+        ⊎-elim
+        (λ (e : i + 1 ≡ n). subst (λ (j : ℕ). nearAt taus (tolsOf run) tau j ≡ false) (let z : n - 1 ≡ i = omega (arith, e) in z) (subst (λ (x : Float). nearOf x tau (lastTolerance run) ≡ false) (sym (v .tau-at (n - 1) within)) (far .not-on-it)))
+        (λ (m : i + 1 < n). not-near-earlier i m)
+        (eq-or-lt-of-le (let z : i + 1 ≤ n = omega (arith, l) in z))
+
+  module _ (policy : ShortExpiryPolicy) where
+    bracket-is : bracketRun run policy k tau ≡ bracketIn run policy k tau
+    unfolding bracketRun
+    bracket-is = sym (number-goes _ refl valid refl)
+
+    lookup-is : bracketIn run policy k tau ≡ lookupOf taus (tolsOf run) n policy tau
+    unfolding bracketIn bracketOf
+    lookup-is = sym (if-false _ (le-ltb 32 n (v .few)) (number-goes _ refl point refl))
+
+    -- ---- 37 only there
+
+    refused : lookupOf taus (tolsOf run) n policy tau ≡ Refused 37 → BeyondLast run tau
+    unfolding lookupOf nodeOf beyondOf insideOf
+    refused e =
+        let two = v .two in
+        let a = found-none (ltb (nodeOf taus (tolsOf run) n tau) n) (lt tau (at taus 0)) (nodeOf taus (tolsOf run) n tau) policy (insideOf taus n tau (beyondOf taus n tau)) e in
+        let b = none-beyond (ltb (beyondOf taus n tau) n) _ _ _ (a .1) in
+        let far : nearAt taus (tolsOf run) tau (n - 1) ≡ false =
+        none-found (nearAt taus (tolsOf run) tau) (n - 0) 0 (let l = ltb-false (nodeOf taus (tolsOf run) n tau) n (a .0) in let z : 0 + (n - 0) ≤ nodeOf taus (tolsOf run) n tau = omega (arith, l) in z) (n - 1) (omega arith) (omega (arith, two)) in
+        let past : lt tau (at taus (n - 1)) ≡ false =
+        none-found (beyondAt taus tau) (n - 1) 1 (let l = ltb-false (beyondOf taus n tau) n b in let z : 1 + (n - 1) ≤ beyondOf taus n tau = omega (arith, l, two) in z) (n - 1) (omega (arith, two)) (omega (arith, two)) in
+        record {
+          greater = subst (λ (x : Float). lt x tau ≡ true) (v .tau-at (n - 1) within) (above far past);
+          not-on-it = subst (λ (x : Float). nearOf x tau (lastTolerance run) ≡ false) (v .tau-at (n - 1) within) far;
+        }
+
+    -- ---- and there always
+
+    refuses : TausFit run → BeyondLast run tau → lookupOf taus (tolsOf run) n policy tau ≡ Refused 37
+    unfolding lookupOf nodeOf beyondOf insideOf
+    refuses fit far =
+        let two = v .two in
+        let none : nodeOf taus (tolsOf run) n tau ≡ n = search-none (nearAt taus (tolsOf run) tau) (n - 0) 0 (λ j l m. not-near fit far j (omega (arith, m))) ∙ (let z : 0 + (n - 0) ≡ n = omega arith in z) in
+        let past : beyondOf taus n tau ≡ n = search-none (beyondAt taus tau) (n - 1) 1 (λ j l m. passed fit far j (omega (arith, m, two))) ∙ (let z : 1 + (n - 1) ≡ n = omega (arith, two) in z) in
+        sym (if-false _ (le-ltb _ n (let z : n ≤ nodeOf taus (tolsOf run) n tau = omega (arith, none) in z))
+        (if-false _ (passed fit far 0 (omega (arith, two)))
+        (if-false _ (le-ltb _ n (let z : n ≤ beyondOf taus n tau = omega (arith, past) in z)) refl)))
+
+    -- 37 of `bracket`
+    pub bracket-37 : TausFit run → (bracketRun run policy k tau ≡ Refused 37) ↔ BeyondLast run tau
+    bracket-37 fit = (λ e. refused (sym lookup-is ∙ sym bracket-is ∙ e), λ far. bracket-is ∙ lookup-is ∙ refuses fit far)
+
+    -- ---- the region and the total variance hand it on
+
+    region-of : (b : Bracket) → regionIn (run .recs) b k ≡ region.Refused 37 → b ≡ Refused 37
+    region-of (Segment lo hi x) e = absurd (never (bothHold (sliceAt (run .recs) lo) (sliceAt (run .recs) hi) k) e)
+      where
+        never : (b : Bool) → regionBy b ≡ region.Refused 37 → ⊥
+        never true e = let z : _≡_ {A = ℕ} 0 1 = cc in omega arith
+        never false e = let z : _≡_ {A = ℕ} 0 1 = cc in omega arith
+    region-of Short e = let z : _≡_ {A = ℕ} 0 1 = cc in absurd (omega arith)
+    region-of (Refused m) e = let z : m ≡ 37 = cc in ap Refused z
+
+    region-is : regionRun run policy k tau ≡ regionIn (run .recs) (bracketIn run policy k tau) k
+    unfolding regionRun
+    region-is = sym (number-goes _ refl valid refl)
+
+    -- 37 of `region`
+    pub region-37 : TausFit run → (regionRun run policy k tau ≡ region.Refused 37) ↔ BeyondLast run tau
+    region-37 fit = (
+      λ e. bracket-37 fit .0 (bracket-is ∙ region-of (bracketIn run policy k tau) (sym region-is ∙ e)),
+      λ far. region-is ∙ ap (λ (b : Bracket). regionIn (run .recs) b k) (sym bracket-is ∙ bracket-37 fit .1 far),
+    )
+
+    total-of : (b : Bracket) → varianceIn (run .recs) b k tau ≡ total.Refused 37 → b ≡ Refused 37
+    unfolding segmentOf firstOf
+    total-of (Segment lo hi x) e = absurd (blend-no (evalRaw (sliceAt (run .recs) lo) k) (evalRaw (sliceAt (run .recs) hi) k) x _ (eval-no (sliceAt (run .recs) lo) k) (eval-no (sliceAt (run .recs) hi) k) e)
+    total-of Short e = absurd (scaled-no (evalRaw (sliceAt (run .recs) 0) k) tau _ (eval-no (sliceAt (run .recs) 0) k) e)
+    total-of (Refused m) e = let z : m ≡ 37 = cc in ap Refused z
+
+    total-is : totalRun run policy k tau ≡ varianceIn (run .recs) (bracketIn run policy k tau) k tau
+    unfolding totalRun varianceAt bracketIn
+    total-is = sym (number-goes _ refl valid refl)
+
+    -- 37 of `total_variance`
+    pub total-37 : TausFit run → (totalRun run policy k tau ≡ total.Refused 37) ↔ BeyondLast run tau
+    total-37 fit = (
+      λ e. bracket-37 fit .0 (bracket-is ∙ total-of (bracketIn run policy k tau) (sym total-is ∙ e)),
+      λ far. total-is ∙ ap (λ (b : Bracket). varianceIn (run .recs) b k tau) (sym bracket-is ∙ bracket-37 fit .1 far),
+    )
