@@ -66,13 +66,13 @@ class Promises(Case):
             file.write(text)
 
     def look(self, document):
-        """The exit status and what it says, without the counts."""
-        self.write("docs/PROMISES.md", document)
+        """The exit status and what it says, without the counts. The edit is named below what is asked about."""
+        self.write("docs/PROMISES.md", document + "\n\nThe edit `a!wrong`.\n")
         out = io.StringIO()
         with mock.patch.object(program("promises"), "ROOT", self.folder), mock.patch.object(sys, "argv", ["promises"]), contextlib.redirect_stdout(out):
             with self.assertRaises(SystemExit) as end:
                 program("promises").main()
-        lines = [line.split("PROMISES.md:3: ")[-1] for line in out.getvalue().splitlines()[:-1] if "no row names" not in line]
+        lines = [line.split("PROMISES.md:3: ")[-1] for line in out.getvalue().splitlines()[:-1]]
         self.assertEqual(end.exception.code, 1 if lines else 0)
         return lines
 
@@ -146,12 +146,12 @@ class Promises(Case):
         self.assertEqual(self.look("`tools/none --check`\n"), ["promises: docs/PROMISES.md:1: tools/none --check is not there"])
 
     def test_an_edit_without_its_line(self):
-        self.write("crates/a/must-fail/dumb.edit", "file: src/lib.rt\nold: x\nnew: y\n")
-        self.assertEqual(self.row(), ["promises: crates/a/must-fail/dumb.edit does not say which wrong program it stands for"])
+        self.write("crates/a/must-fail/wrong.edit", "file: src/lib.rt\nold: x\nnew: y\n")
+        self.assertEqual(self.row(), ["promises: crates/a/must-fail/wrong.edit does not say which wrong program it stands for"])
 
     def test_edits_that_no_row_names(self):
         self.write("docs/PROMISES.md", "nothing\n")
         out = io.StringIO()
         with mock.patch.object(program("promises"), "ROOT", self.folder), contextlib.redirect_stdout(out), self.assertRaises(SystemExit) as end:
             program("promises").main()
-        self.assertEqual((end.exception.code, out.getvalue()), (0, "promises: 1 edits that no row names: a!wrong\npromises: 0 names looked up, 1 edits\n"))
+        self.assertEqual((end.exception.code, out.getvalue()), (1, "promises: no row names the edit a!wrong\npromises: 0 names looked up, 1 edits\n"))
