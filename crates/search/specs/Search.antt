@@ -117,7 +117,7 @@ unfoldable pub narrowed : Plan → Window → Found → Window
 narrowed p w o =
     record { m = around (o .m) (two *f stepOn (w .m) (p .n)) (p .domain .m); s = around (o .ls) (two *f stepOn (w .s) (p .n)) (p .domain .s) }
 
--- a shrink counts only where it reaches a window smaller, along m, than any before
+-- a shrink counts only where it reaches a window smaller, along m, than the domain and than every shrink counted before
 unfoldable pub shrunk : Plan → Search → Counts → Found → Search
 shrunk p s n o =
     let w = narrowed p (s .window) o in

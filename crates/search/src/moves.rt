@@ -120,7 +120,7 @@ fn narrow(p: Plan, w: Window, o: Found) -> Window
     Window { m, s }
 }
 
-// Counted only where it reaches a window smaller, along m, than any before.
+// Counted only where it reaches a window smaller, along m, than the domain and than every shrink counted before.
 fn shrink(p: Plan, s: Search, n: Counts, o: Found) -> Search
     requires { ⌜ n .shrinks < 2 ^ 60 ⌝ }
     ensures { λ r. ⌜ r ≡ shrunk p s n o ⌝ }
