@@ -1,9 +1,10 @@
--- A tally of any points: how many there are, how many are violations, and the first smallest value, where a NaN that comes first stays. Assumes nothing.
+-- A tally of any points: how many there are, how many are violations, and the first smallest value, where a NaN that comes first stays; and only one point is that. Assumes nothing.
 use mathlib.Core.Path.{_≡_, refl, sym, ap, subst, _∙_}
 use mathlib.Core.Bool.{Bool, true, false, not, cond}
 use mathlib.Core.List.{List, [], _∷_, _++_, append-nil}
-use mathlib.Core.Logic.{_⊎_, inl, inr}
-use Prim.Native.Nat.{ℕ, _+_, _<_}
+use mathlib.Core.Logic.{_⊎_, inl, inr, ⊎-elim}
+use Prim.Native.Nat.{ℕ, zero, suc, _+_, _<_}
+use native.Mathlib.Nat.{eq-or-lt-of-le}
 use native.Mathlib.Omega.{arith}
 use lib.Dec.{T, ltb}
 use lib.ListN.{length, length-append, List·getD-append}
@@ -11,6 +12,7 @@ use lib.Seq.{append-snoc, getD-at}
 use lib.Ieee.{Float, nan, inf, fin, lt, le, isNan, neg}
 use borrow.Author.Tests.{ltb-true, ltb-false}
 use Rattle.laws.proofs.Choices.{false-true}
+use Rattle.laws.proofs.Comparing.{lt-or-le}
 use Rattle.laws.proofs.Floats.{is-nan}
 use Rattle.laws.proofs.Loops.{below-next}
 use Rattle.laws.proofs.Order.{lt-le-trans, lt-not-self, lt-or, lt→le}
@@ -53,6 +55,10 @@ no-nan-above (fin s m e) (fin t n d) h = tt
 not-below-nan : (p : Float) → T (lt p nan) → ⊥
 unfolding isNan
 not-below-nan p h = no-nan-above p nan h
+
+not-above-nan : (x : Float) → T (lt nan x) → ⊥
+unfolding lt
+not-above-nan x h = h
 
 -- what is below w is below all that are not below w and are no NaN
 below-all : (p w x : Float) → lt p w ≡ true → lt x w ≡ false → (lt p x ≡ true) ⊎ (x ≡ nan)
@@ -203,3 +209,27 @@ none-yet t = record { points = refl; violations = refl; none = λ e. refl; worst
 -- whatever the points and the tolerance: their number, the violations among them, and the first smallest value
 pub tally-says : (ps : List DiagnosticPoint) (t : Float) → Tallies ps t (tallyOf ps t)
 tally-says ps t = all [] ps t noCheck (none-yet t)
+
+-- ---- these words fit one point only
+
+module _ (ps : List DiagnosticPoint) {w w′ : Worst} (s : FirstSmallest ps w) (t : FirstSmallest ps w′) where
+  not-earlier : s .place < t .place → ⊥
+  not-earlier l = ⊎-elim (λ h. less h) (λ e. missing (s .place) refl e) (t .earlier (s .place) l)
+    where
+      less : lt (valueOf ps (t .place)) (valueOf ps (s .place)) ≡ true → ⊥
+      less h = false-true (sym (s .none-less (t .place) (t .inside)) ∙ h)
+
+      missing : (i : ℕ) → s .place ≡ i → valueOf ps (s .place) ≡ nan → ⊥
+      missing zero p e = let q = t .nan-stays (ap (valueOf ps) (sym p) ∙ e) in omega (arith, l, q)
+      missing (suc i) p e =
+          ⊎-elim
+          (λ h. not-above-nan (valueOf ps 0) (from-lt (ap (λ (x : Float). lt x (valueOf ps 0)) (sym e) ∙ h)))
+          (λ z. let q = s .nan-stays z in omega (arith, p, q))
+          (s .earlier 0 (omega (arith, p)))
+
+-- so the worst of given points is one
+pub only-one : (ps : List DiagnosticPoint) {w w′ : Worst} → FirstSmallest ps w → FirstSmallest ps w′ → w ≡ w′
+only-one ps s t = s .is-it ∙ ap (λ (i : ℕ). found (pointOf ps i)) same ∙ sym (t .is-it)
+  where
+    same : s .place ≡ t .place
+    same = ⊎-elim (λ l. absurd (not-earlier ps s t l)) (λ h. ⊎-elim (λ e. sym e) (λ l. absurd (not-earlier ps t s l)) (eq-or-lt-of-le h)) (lt-or-le (s .place) (t .place))
