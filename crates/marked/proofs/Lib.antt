@@ -8,6 +8,7 @@ pub mod SettledSurface
 pub mod SettledDiagnostics
 pub mod SettledSolver
 pub mod SettledPolytope
+pub mod SettledFaces
 pub mod SettledCell
 pub mod SettledWeights
 pub mod SettledSearch
