@@ -17,11 +17,11 @@ def function(name, head="pub fn", contract=CONTRACT):
 
 class Settle(Case):
     def tree(self, files, lib=None):
-        """The sources of one crate `a`, and crates/marked/proofs/Lib.antt."""
-        self.write("crates.txt", "a:\nmarked: a\n")
+        """The sources of one crate `a`, and crates/uniqueness/proofs/Lib.antt."""
+        self.write("crates.txt", "a:\nuniqueness: a\n")
         for name, text in files.items():
             self.write(f"crates/a/src/{name}", text)
-        self.write("crates/marked/proofs/Lib.antt", "pub mod SettledA\n" if lib is None else lib)
+        self.write("crates/uniqueness/proofs/Lib.antt", "pub mod SettledA\n" if lib is None else lib)
 
     def write(self, name, text):
         path = os.path.join(self.folder, name)
@@ -45,7 +45,7 @@ class Settle(Case):
         self.tree(files)
         status, lines = self.settle()
         self.assertEqual(status, 0, lines)
-        with open(os.path.join(self.folder, "crates/marked/proofs/SettledA.antt"), encoding="utf-8") as file:
+        with open(os.path.join(self.folder, "crates/uniqueness/proofs/SettledA.antt"), encoding="utf-8") as file:
             found = [line[len("-- a::"):].strip() for line in file if line.startswith("-- a::")]
         self.assertEqual(self.settle("--check")[0], 0)
         return found
@@ -63,7 +63,7 @@ class Settle(Case):
     def test_a_type_of_a_deep_module(self):
         files = {"lib.rt": "pub mod deep;\npub fn f(x: Pair) -> u64\n    ensures { λ r. ⌜ r ≡ g x ⌝ }\n{\n    1\n}\n", "deep.rt": "pub mod x;\n", "deep/x.rt": "pub struct Pair {\n    pub a: u64,\n}\n"}
         self.assertEqual(self.settled(files), ["f"])
-        with open(os.path.join(self.folder, "crates/marked/proofs/SettledA.antt"), encoding="utf-8") as file:
+        with open(os.path.join(self.folder, "crates/uniqueness/proofs/SettledA.antt"), encoding="utf-8") as file:
             self.assertIn("use Rattle.a.specs.declared.deep.x.Pair.{Pair}", file.read())
 
     def test_a_source_that_is_in_no_module(self):
@@ -129,20 +129,20 @@ class Settle(Case):
     def test_another_contract(self):
         self.settled({"lib.rt": function("f")})
         self.write("crates/a/src/lib.rt", function("f", contract="ensures { λ r. ⌜ r ≡ g x ⌝ }"))
-        self.assertEqual(self.settle("--check")[1][0], "settle: crates/marked/proofs/SettledA.antt is not what the contracts say: run tools/settle and rt fmt")
+        self.assertEqual(self.settle("--check")[1][0], "settle: crates/uniqueness/proofs/SettledA.antt is not what the contracts say: run tools/settle and rt fmt")
 
     def test_a_file_that_is_no_module(self):
-        self.tree({"lib.rt": function("f")}, lib="pub mod Marked\n")
+        self.tree({"lib.rt": function("f")}, lib="pub mod Other\n")
         self.settle()
         status, lines = self.settle("--check")
-        self.assertEqual((status, lines[0]), (1, "settle: crates/marked/proofs/SettledA.antt is no module of crates/marked/proofs/Lib.antt: nothing proves it"))
+        self.assertEqual((status, lines[0]), (1, "settle: crates/uniqueness/proofs/SettledA.antt is no module of crates/uniqueness/proofs/Lib.antt: nothing proves it"))
 
     def test_a_module_that_has_no_file(self):
         self.tree({"lib.rt": function("f")})
-        self.assertIn("settle: crates/marked/proofs/Lib.antt: module SettledA has no file", self.settle("--check")[1])
+        self.assertIn("settle: crates/uniqueness/proofs/Lib.antt: module SettledA has no file", self.settle("--check")[1])
 
     def test_a_file_of_no_crate(self):
         self.tree({"lib.rt": function("f")}, lib="pub mod SettledA\npub mod SettledB\n")
         self.settle()
-        self.write("crates/marked/proofs/SettledB.antt", "-- left over\n")
-        self.assertEqual(self.settle("--check"), (1, ["settle: crates/marked/proofs/SettledB.antt stands for no crate with a public function", "settle: 1 public functions in 1 crates"]))
+        self.write("crates/uniqueness/proofs/SettledB.antt", "-- left over\n")
+        self.assertEqual(self.settle("--check"), (1, ["settle: crates/uniqueness/proofs/SettledB.antt stands for no crate with a public function", "settle: 1 public functions in 1 crates"]))

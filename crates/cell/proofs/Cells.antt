@@ -19,7 +19,7 @@ use Rattle.cell.specs.declared.Model.{Model}
 use Rattle.cell.specs.declared.Limits.{Limits}
 use Rattle.cell.specs.declared.Tried.{Tried}
 use Rattle.cell.specs.declared.Cell.{Cell}
-use Rattle.cell.specs.Faces.{faceAt}
+use Rattle.faces.specs.Faces.{faceAt}
 use Rattle.cell.specs.Cell.{Problem, noTry, tryOf, pickOf, bestOf, cellFrom, chosenFrom, chosenOf, posedOf, fitModel, cellOf}
 use Rattle.cell.specs.Choice.{goalAt, problemAt, faceTried, Beats, First}
 use Rattle.cell.proofs.Laws.{try-ind}

@@ -1,5 +1,5 @@
 -- Laws of the definitions that the functions' proofs and the callers' cite. Assumes nothing.
-use mathlib.Core.Path.{_≡_, refl, sym, ap, ap₂, subst, fun-ext, _∙_}
+use mathlib.Core.Path.{_≡_, refl, sym, ap, ap₂, fun-ext, _∙_}
 use mathlib.Core.Bool.{Bool, true, false, not, _&&_, _||_, cond}
 use mathlib.Core.List.{List, []}
 use Prim.Native.Nat.{ℕ, zero, suc, _+_, _-_, _<_, _≤_}
@@ -15,21 +15,20 @@ use Rattle.laws.proofs.Choices.{if-true, cond-ind, both}
 use Rattle.laws.proofs.Loops.{for-keeps, for-same}
 use Rattle.solver.specs.Solve.{scaleOf, scaledOf, underOf, solveOf}
 use Rattle.solver.specs.declared.Solved.{Solved}
-use Rattle.cell.specs.declared.Face.{Face}
+use Rattle.faces.specs.declared.Face.{Face}
 use Rattle.cell.specs.declared.Model.{Model}
 use Rattle.cell.specs.declared.Limits.{Limits}
 use Rattle.cell.specs.declared.Normal.{Normal}
 use Rattle.cell.specs.declared.Point.{Point}
 use Rattle.cell.specs.declared.Tried.{Tried}
 use Rattle.cell.specs.declared.Cell.{Cell}
-use Rattle.cell.specs.Faces.{faceOf, faceAt}
-use Rattle.cell.specs.Next.{Good, Ordered, nextOf}
+use Rattle.faces.specs.Faces.{faceOf, faceAt}
 use Rattle.polytope.specs.Polytope.{rowsOf, boundsOf, spreadOf, feasibleOf}
 use Rattle.laws.specs.Room.{filledOn}
 use Rattle.laws.proofs.Rooms.{filled-at, filled-length}
 use Rattle.roots.specs.Hypot.{withOneOf}
 use Rattle.cell.specs.Least.{yOf, hOf, addedTo, normalOf, restOf, objectiveOf}
-use Rattle.cell.specs.Cell.{Problem, kktOf, solutionOf, widened, noTry, valuedOf, metOf, triedOf, tryOf, wins, pickOf, bestOf, chosenOf, problemOf, posedOf, fitModel, cellOf, inRange, noCell, innerOf}
+use Rattle.cell.specs.Cell.{Problem, kktOf, solutionOf, widened, noTry, valuedOf, metOf, triedOf, tryOf, pickOf, bestOf, chosenOf, problemOf, posedOf, fitModel, cellOf, inRange, noCell, innerOf}
 use Rattle.cell.specs.Lent.{ysOn, hsOn, innerOn}
 use Rattle.cell.specs.Shared.{doubledOf, blockOf, problemIn, emptyScale, Scaled, answerOf}
 
@@ -174,21 +173,6 @@ inner-lent ks ws ts l m sigma ys hs a b =
 
 -- ---- the faces
 
-module _ {u n count : ℕ} (O : Ordered u n count) where
-  pub stepped : (t : ℕ) (f g : Face) → 1 ≤ t → t < count → f ≡ faceAt u n (t - 1) → g ≡ nextOf n f → g ≡ faceAt u n t
-  stepped t f g l m e d =
-      let k : t - 1 + 1 ≡ t = omega arith in
-      d ∙ ap (nextOf n) e ∙ O .step (t - 1) (omega arith) ∙ ap (faceAt u n) k
-
-  pub good-at : (t : ℕ) (f : Face) → t < count → f ≡ faceAt u n t → Good u n f
-  good-at t f l e = subst (Good u n) (sym e) (O .good t l)
-
-pub good-seven : {u n : ℕ} (f : Face) → u ≤ 3 → n ≤ 7 → Good u n f → Good 3 7 f
-good-seven f l m g = record { size = omega arith; a = omega arith; b = omega arith; c = omega arith }
-
-pub none-good : Good 3 7 (noTry .face)
-none-good = record { size = omega arith; a = omega arith; b = omega arith; c = omega arith }
-
 -- a face that was tried is nothing, or that face with a finite objective
 pub try-ind :
     (P : Tried → Type 0) (o : List Float → Float) (p : Problem) (f : Face) → P noTry
@@ -205,20 +189,6 @@ try-ind P o p f none some = cond-ind P (s .ok) (cond-ind P (feasibleOf (p .g) (p
     go : (b : Bool) → finite v ≡ b → P (cond b (record { some = true; objective = v; x = widened (s .x); face = f }) noTry)
     go true e = some (widened (s .x)) v e
     go false e = none
-
--- what holds of nothing and of each face that is tried holds of the best
-pub best-ind : (P : Tried → Type 0) (o : List Float → Float) (p : Problem) (count : ℕ) → P noTry → ((t : ℕ) → t < count → P (tryOf o p (faceAt (p .u) (p .n) t))) → P (bestOf o p count)
-unfolding bestOf pickOf
-best-ind P o p count none each =
-    for-keeps P _ count (λ t l b q. cond-ind P (wins (tryOf o p (faceAt (p .u) (p .n) t)) b) (each t l) q) noTry none
-
-pub try-good : (o : List Float → Float) (p : Problem) (f : Face) (t : Tried) → Good 3 7 f → t ≡ tryOf o p f → Good 3 7 (t .face)
-try-good o p f t g e = subst (λ (t : Tried). Good 3 7 (t .face)) (sym e) (try-ind (λ (t : Tried). Good 3 7 (t .face)) o p f none-good (λ x v h. g))
-
-pub best-good : (o : List Float → Float) (p : Problem) (count : ℕ) (t : Tried) → Ordered (p .u) (p .n) count → t ≡ bestOf o p count → Good 3 7 (t .face)
-best-good o p count t O e =
-    subst (λ (t : Tried). Good 3 7 (t .face)) (sym e)
-    (best-ind (λ (t : Tried). Good 3 7 (t .face)) o p count none-good (λ i l. try-good o p (faceAt (p .u) (p .n) i) _ (good-seven _ (O .unknowns) (O .rows) (O .good i l)) refl))
 
 -- what does not qualify changes nothing
 pub passed-over : (t b : Tried) → t .some ≡ false → b ≡ pickOf t b

@@ -1,6 +1,4 @@
 pub mod Laws
-pub mod Orders
 pub mod Cells
-pub mod Marked
 pub mod Systems
 pub mod Scaling

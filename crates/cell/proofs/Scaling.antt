@@ -5,7 +5,7 @@ use mathlib.Core.List.{List, [], _∷_}
 use Prim.Native.Nat.{ℕ, zero, suc, _+_, _-_, _*_, _/_, _^_, _≤_, _<_}
 use native.Mathlib.Nat.{mul-right-comm, mul-comm, mul-div-mul-right}
 use native.Mathlib.Omega.{arith}
-use lib.Dec.{T, eqb, ltb}
+use lib.Dec.{T}
 use lib.IntN.{ℤ}
 use lib.ListN.{set, replicate}
 use lib.Seq.{getD-set-other}
@@ -21,14 +21,14 @@ use Rattle.laws.proofs.Order.{lt-le-trans, lt-not-self, lt→le}
 use Rattle.solver.specs.Solve.{entry, rowScaleOf, scaleOf}
 use Rattle.solver.proofs.Steps.{larger, larger-max, larger-step, step-sized, abs-above, not-lt-trans}
 use Rattle.solver.proofs.Steps as steps
-use Rattle.cell.specs.declared.Face.{Face}
+use Rattle.faces.specs.declared.Face.{Face}
 use Rattle.cell.specs.declared.Normal.{Normal}
 use Rattle.cell.specs.Cell.{slotOf, kktOf}
-use Rattle.cell.specs.Faces.{memberOf, faceAt}
-use Rattle.cell.specs.Next.{afterOne, afterTwo, afterThree, nextOf, Good}
+use Rattle.faces.specs.Faces.{memberOf, faceAt}
+use Rattle.faces.specs.Next.{Good}
 use Rattle.polytope.specs.Polytope.{rowsOf}
 use Rattle.cell.specs.Shared.{Sized, doubledOf, linesOf, blockOf, lineScale, emptyScale, otherScale, Scaled}
-use Rattle.cell.proofs.Orders.{fit-order}
+use Rattle.faces.proofs.Orders.{fit-order, face-some}
 
 -- ---- the code's steps
 
@@ -387,25 +387,6 @@ module _ (b : List Float) (fit : (k : ℕ) → T (fits binary64 (at (blockOf b) 
       same-scale r s (whole .scale) s-scale (cond-ind (λ (x : Float). lt r x ≡ false) (lt e one) not-one not-block) above
 
 -- ---- every face but the empty one
-
--- every face that comes after one has a constraint
-next-some : (n : ℕ) (f : Face) → 0 < nextOf n f .size
-unfolding nextOf afterOne afterTwo afterThree
-next-some n f =
-    let P : Face → Type 0 = λ f. 0 < f .size in
-    let one : 0 < 1 = omega arith in
-    let two : 0 < 2 = omega arith in
-    let three : 0 < 3 = omega arith in
-    cond-ind P (eqb (f .size) 0) one
-    (cond-ind P (eqb (f .size) 1) (cond-ind P (ltb (f .a + 1) n) one two)
-    (cond-ind P (eqb (f .size) 2) (cond-ind P (ltb (f .b + 1) n) two (cond-ind P (ltb (f .a + 2) n) two three))
-    (cond-ind P (ltb (f .c + 1) n) three (cond-ind P (ltb (f .b + 2) n) three three))))
-
-face-some : (t : ℕ) → 0 < t → t < 64 → 0 < faceAt 3 7 t .size
-face-some zero h l = absurd (omega arith)
-face-some (suc t) h l =
-    let e : t + 1 ≡ suc t = omega arith in
-    subst (λ (k : ℕ). 0 < faceAt 3 7 k .size) e (subst (λ (f : Face). 0 < f .size) (fit-order .step t (omega arith)) (next-some 7 (faceAt 3 7 t)))
 
 -- a product has its one form
 doubled-fit : (n : Normal) (k : ℕ) → T (fits binary64 (at (blockOf (doubledOf n)) k))

@@ -8,8 +8,8 @@ use Rattle.laws.specs.Loop.{turns, for}
 use Rattle.laws.specs.Floats.{at}
 use Rattle.solver.specs.Solve.{underOf}
 use Rattle.solver.specs.declared.Solved.{Solved}
-use Rattle.cell.specs.declared.Face.{Face}
-use Rattle.cell.specs.Faces.{memberOf}
+use Rattle.faces.specs.declared.Face.{Face}
+use Rattle.faces.specs.Faces.{memberOf}
 use Rattle.cell.specs.Cell.{slotOf, kktOf, rhsOf}
 use Rattle.cell.specs.Shared.{blockOf, sideOf, answerOf}
 

@@ -11,13 +11,13 @@ use Rattle.laws.specs.Choice.{unless}
 use Rattle.laws.specs.Floats.{_*f_, +0, at, finite}
 use Rattle.solver.specs.Solve.{solveOf}
 use Rattle.solver.specs.declared.Solved.{Solved}
-use Rattle.cell.specs.declared.Face.{Face}
+use Rattle.faces.specs.declared.Face.{Face}
 use Rattle.cell.specs.declared.Model.{Model}
 use Rattle.cell.specs.declared.Limits.{Limits}
 use Rattle.cell.specs.declared.Normal.{Normal}
 use Rattle.cell.specs.declared.Tried.{Tried}
 use Rattle.cell.specs.declared.Cell.{Cell}
-use Rattle.cell.specs.Faces.{memberOf, faceAt, marksOf}
+use Rattle.faces.specs.Faces.{memberOf, faceAt, marksOf}
 use Rattle.polytope.specs.Polytope.{rowsOf, boundsOf, spreadOf, feasibleOf}
 use Rattle.cell.specs.Least.{yOf, hOf, normalOf, baseOf, rightOf, objectiveOf}
 

@@ -8,7 +8,7 @@ use Rattle.cell.specs.declared.Model.{Model}
 use Rattle.cell.specs.declared.Limits.{Limits}
 use Rattle.cell.specs.declared.Tried.{Tried}
 use Rattle.cell.specs.declared.Cell.{Cell}
-use Rattle.cell.specs.Faces.{faceAt}
+use Rattle.faces.specs.Faces.{faceAt}
 use Rattle.cell.specs.Least.{yOf, hOf, normalOf, objectiveOf}
 use Rattle.cell.specs.Cell.{Problem, tryOf, cellFrom, problemOf}
 

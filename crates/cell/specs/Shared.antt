@@ -8,10 +8,10 @@ use lib.Ieee.{Float, lt, isNan}
 use Rattle.laws.specs.Floats.{_*f_, +0, one, two, at, absOf, maxOf}
 use Rattle.solver.specs.Solve.{scaleOf, underOf}
 use Rattle.solver.specs.declared.Solved.{Solved}
-use Rattle.cell.specs.declared.Face.{Face}
+use Rattle.faces.specs.declared.Face.{Face}
 use Rattle.cell.specs.declared.Line.{Line}
 use Rattle.cell.specs.declared.Normal.{Normal}
-use Rattle.cell.specs.Faces.{faceAt}
+use Rattle.faces.specs.Faces.{faceAt}
 use Rattle.polytope.specs.Polytope.{rowsOf}
 use Rattle.cell.specs.Cell.{Problem, problem, kktOf, rhsOf}
 

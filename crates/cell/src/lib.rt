@@ -1,6 +1,5 @@
 // One cell (m, sigma) of the search: the least squares over the polytope by trying its faces, `inner` of calibrate.rs.
 mod least;
-mod order;
 mod scales;
 mod trial;
 
@@ -10,21 +9,13 @@ ghost use Prim.Native.Nat.{_≤_};
 ghost use lib.ListN.{length};
 ghost use Rattle.laws.specs.Choice.{unless};
 ghost use Rattle.laws.specs.Floats.{at};
-ghost use Rattle.cell.specs.Faces.{faceAt};
+ghost use Rattle.faces.specs.Faces.{faceAt};
 ghost use Rattle.polytope.specs.Polytope.{rowsOf};
-ghost use Rattle.cell.specs.Next.{Good};
 ghost use Rattle.cell.specs.Least.{objectiveAt};
 ghost use Rattle.cell.specs.Cell.{tryOf, bestOf, cellFrom, chosenOf, fitModel, posedOf, inRange, innerOf};
 ghost use Rattle.cell.specs.Shared.{problemIn, emptyScale, otherScale, Scaled};
 ghost use Rattle.cell.specs.Lent.{ysOn, hsOn, innerOn};
-
-// A face: how many of its constraints are held, and which, rising; what is not used is 0.
-pub struct Face {
-    pub size: usize,
-    pub a: usize,
-    pub b: usize,
-    pub c: usize,
-}
+use faces::Face;
 
 // The sizes of a fit's model: how many unknowns, constraints and faces. The definitions take them as a parameter, but their block, rows and bounds are those of a, d and c
 // (`problemOf` of specs/Cell), and the code is that of 3, 7 and 64.
@@ -144,7 +135,7 @@ fn best(
         c: 0,
     };
     for t in 1..64usize {
-        f = order::next(f, 7);
+        f = faces::next(f);
         let e = trial::candidate(b, g, h, limit, slack, f);
         if e.ok {
             let v = least::objective(ys, hs, ws, ts, &e.x);
@@ -155,10 +146,9 @@ fn best(
 }
 
 fn cell_from(t: Tried, faces: usize) -> Cell
-    requires { ⌜ Good 3 7 (t .face) ⌝ }
     ensures { λ r. ⌜ r ≡ cellFrom t faces ⌝ }
 {
-    let active = order::marks(t.face);
+    let active = faces::marks(t.face);
     let x = t.x;
     Cell {
         some: t.some,

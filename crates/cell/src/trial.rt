@@ -5,13 +5,13 @@ ghost use Prim.Native.Nat.{_<_};
 ghost use lib.Ieee.{Float};
 ghost use mathlib.Core.List.{List};
 ghost use Rattle.laws.specs.Choice.{unless};
-ghost use Rattle.cell.specs.Next.{Good};
+ghost use Rattle.faces.specs.Next.{Good};
 ghost use Rattle.polytope.specs.Polytope.{rowsOf};
 ghost use Rattle.cell.specs.Cell.{slotOf, kktOf, rhsOf, noTry, valuedOf, triedOf, pickOf};
 ghost use Rattle.cell.specs.Shared.{blockOf, sideOf, problemIn, answerOf};
-use crate::Face;
 use crate::Point;
 use crate::Tried;
+use faces::Face;
 use solver::Solved;
 
 // Constraint c as row and column r of the matrix.

@@ -21,8 +21,8 @@ use Rattle.surface.proofs.Marked as surface
 use Rattle.surface.proofs.Marked.{bracketed, m7-slices, m8-slices}
 use Rattle.diagnostics.specs.Walk.{butterflyOf}
 use Rattle.diagnostics.proofs.Marked as diagnostics
-use Rattle.cell.specs.Faces.{sets, setsUpTo}
-use Rattle.cell.proofs.Marked as cell
+use Rattle.faces.specs.Faces.{sets, setsUpTo}
+use Rattle.faces.proofs.Marked as faces
 
 pub record Table : Type 0 where
   -- M1: the root of 2.25 is 1.5
@@ -62,5 +62,5 @@ marked =
       m7 = surface.m7;
       m8 = surface.m8;
       m9 = diagnostics.m9;
-      m10 = cell.m10;
+      m10 = faces.m10;
     }

@@ -12,12 +12,12 @@ use Rattle.laws.specs.Loop.{for}
 use Rattle.laws.proofs.Choices.{if-true, if-false}
 use Rattle.laws.proofs.Loops.{again, ended}
 use Rattle.cell.specs.declared.Tried.{Tried}
-use Rattle.cell.specs.Faces.{faceAt}
+use Rattle.faces.specs.Faces.{faceAt}
 use Rattle.cell.specs.Least.{objectiveAt}
 use Rattle.cell.specs.Cell.{noTry, valuedOf, tryOf, pickOf, bestOf}
 use Rattle.cell.specs.Shared.{problemIn}
-use Rattle.cell.proofs.Laws.{stepped, good-at, passed-over, one-more, one-back, best-none, zero-or-more, scale-same, try-at, try-none}
-use Rattle.cell.proofs.Orders.{fit-order}
+use Rattle.cell.proofs.Laws.{passed-over, one-more, one-back, best-none, zero-or-more, scale-same, try-at, try-none}
+use Rattle.faces.proofs.Orders.{fit-order, stepped, good-at}
 use Rattle.cell.proofs.best.Statement.{statement}
 use Rattle.cell.proofs.best.Tie as tie
 
@@ -45,12 +45,6 @@ returns c =
 loop-holds : tie.Need-loop-holds Inv-loop μ-loop
 unfolding bestOf
 loop-holds c = (one-more 0, omega arith, sym (fit-order .first), again _ 0 64 (omega arith) (c .before .before .no-try .ensures ∙ passed-over _ _ (c .before .before .before .before .before .pre .1)) refl)
-
-next-requires : tie.Need-next-requires Inv-loop μ-loop
-next-requires c κs =
-    let l = c .before .loop in
-    let g = good-at fit-order (l .t - 1) (l .f) (omega arith) (l .inv .2) in
-    (g .a, g .b, g .c)
 
 candidate-requires : tie.Need-candidate-requires Inv-loop μ-loop
 candidate-requires c κs =
@@ -94,7 +88,7 @@ best-spec =
     (λ c κs. search needs)
     returns
     loop-holds
-    next-requires
+    (λ c κs. search needs)
     candidate-requires
     (λ c κs. search needs)
     (λ c κs. search needs)

@@ -6,21 +6,11 @@ use borrow.Author.Needs.{needs}
 use Rattle.laws.specs.Floats.{one}
 use Rattle.laws.proofs.Choices.{if-true, if-false}
 use Rattle.cell.specs.declared.Tried.{Tried}
-use Rattle.cell.specs.Faces.{faceAt}
 use Rattle.cell.specs.Least.{objectiveAt}
 use Rattle.cell.specs.Cell.{cellFrom, chosenFrom, chosenOf}
 use Rattle.cell.specs.Shared.{problemIn, Scaled}
-use Rattle.cell.proofs.Laws.{try-good, best-good}
-use Rattle.cell.proofs.Orders.{fit-order}
 use Rattle.cell.proofs.chosen.Statement.{statement}
 use Rattle.cell.proofs.chosen.Tie as tie
-
-cell-from-requires : tie.Need-cell-from-requires
-cell-from-requires c κs =
-    let a = c .before .before .before .before .args in
-    let o = objectiveAt (a .ys .now) (a .hs .now) (a .ws .now) (a .ts .now) in
-    let p = problemIn (a .b .now) (a .g .now) (a .h .now) (a .pivot) (a .slack) in
-    try-good o p (faceAt 3 7 0) _ (fit-order .good 0 (fit-order .many)) (c .before .empty .ensures)
 
 returns : tie.Need-returns
 unfolding chosenOf chosenFrom
@@ -37,13 +27,6 @@ best-requires c κs =
     let e = c .pick .ensures ∙ ap (λ (s : Float). cond (lt s one) one s) (q .2) in
     ((q .0, q .1, subst (Scaled (a .b .now)) (sym e) (q .3), q .4), ap (λ (t : Tried). t .some) (sym (c .before .before .empty .ensures)) ∙ c .before .if1 .left)
 
-cell-from-requires-2 : tie.Need-cell-from-requires-2
-cell-from-requires-2 c κs =
-    let a = c .before .before .before .before .before .before .args in
-    let o = objectiveAt (a .ys .now) (a .hs .now) (a .ws .now) (a .ts .now) in
-    let p = problemIn (a .b .now) (a .g .now) (a .h .now) (a .pivot) (a .slack) in
-    best-good o p 64 _ fit-order (c .best .ensures)
-
 returns-2 : tie.Need-returns-2
 unfolding chosenOf chosenFrom
 returns-2 c =
@@ -57,9 +40,9 @@ chosen-spec =
     tie.close
     (tie.spec
     (λ c κs. search needs)
-    cell-from-requires
+    (λ c κs. search needs)
     returns
     (λ c κs. search needs)
     best-requires
-    cell-from-requires-2
+    (λ c κs. search needs)
     returns-2)

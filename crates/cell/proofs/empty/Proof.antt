@@ -8,12 +8,12 @@ use borrow.Author.Needs.{needs}
 use Rattle.laws.specs.Floats.{positive}
 use Rattle.laws.proofs.Choices.{if-true, if-false}
 use Rattle.cell.specs.declared.Tried.{Tried}
-use Rattle.cell.specs.Faces.{faceOf}
+use Rattle.faces.specs.Faces.{faceOf}
 use Rattle.cell.specs.Least.{objectiveAt}
 use Rattle.cell.specs.Cell.{noTry, valuedOf, tryOf, pickOf}
 use Rattle.cell.specs.Shared.{problemIn}
-use Rattle.cell.proofs.Laws.{try-at, try-none, scale-empty, valued-first, good-at}
-use Rattle.cell.proofs.Orders.{fit-order}
+use Rattle.cell.proofs.Laws.{try-at, try-none, scale-empty, valued-first}
+use Rattle.faces.proofs.Orders.{fit-order, good-at}
 use Rattle.cell.proofs.empty.Statement.{statement}
 use Rattle.cell.proofs.empty.Tie as tie
 

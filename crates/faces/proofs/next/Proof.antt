@@ -1,11 +1,11 @@
--- `cell::order::next` meets its contract. Assumes nothing.
+-- `faces::next` meets its contract. Assumes nothing.
 use mathlib.Core.Path.{refl}
 use borrow.Author.Tests.{eq-eqb, ne-eqb}
 use borrow.Author.Needs.{needs}
 use Rattle.laws.proofs.Choices.{if-true, if-false}
-use Rattle.cell.specs.Next.{nextOf}
-use Rattle.cell.proofs.order.next.Statement.{statement}
-use Rattle.cell.proofs.order.next.Tie as tie
+use Rattle.faces.specs.Next.{nextOf}
+use Rattle.faces.proofs.next.Statement.{statement}
+use Rattle.faces.proofs.next.Tie as tie
 
 returns : tie.Need-returns
 unfolding nextOf

@@ -1,17 +1,18 @@
 -- The order of the 64 faces: each set of at most three of seven constraints stands in it once, and the code's `nextOf` walks it. Computed, not argued. Assumes nothing.
-use mathlib.Core.Path.{_≡_, refl, sym, subst}
+use mathlib.Core.Path.{_≡_, refl, sym, ap, subst, _∙_}
 use mathlib.Core.Bool.{Bool, true, false, _&&_, cond}
 use mathlib.Core.List.{List, [], _∷_}
-use Prim.Native.Nat.{ℕ, zero, suc, _+_, _<_, _≤_}
+use Prim.Native.Nat.{ℕ, zero, suc, _+_, _-_, _<_, _≤_}
 use native.Mathlib.Nat.{eq-or-lt-of-le, le-of-suc-le-suc, not-suc-le-zero}
 use native.Mathlib.Omega.{arith}
 use mathlib.Core.Logic.{⊎-elim}
 use lib.Dec.{T, eqb, ltb, leb, eqb→eq, ltb→lt, leb→le}
 use lib.ListN.{length}
 use lib.Ieee.Fits.{and-l, and-r}
-use Rattle.cell.specs.declared.Face.{Face}
-use Rattle.cell.specs.Faces.{sets, setsUpTo, faceOf, faceAt}
-use Rattle.cell.specs.Next.{afterOne, afterTwo, afterThree, nextOf, Good, Ordered}
+use Rattle.laws.proofs.Choices.{cond-ind}
+use Rattle.faces.specs.declared.Face.{Face}
+use Rattle.faces.specs.Faces.{sets, setsUpTo, faceOf, faceAt}
+use Rattle.faces.specs.Next.{afterOne, afterTwo, afterThree, nextOf, Good, Ordered}
 
 -- a test that holds at each number below k
 unfoldable pub each : ℕ → (ℕ → Bool) → Bool
@@ -76,6 +77,36 @@ orderly-is u n last l m k first h =
 pub fit-order : Ordered 3 7 64
 unfolding orderly each fine same faceAt setsUpTo sets nextOf afterOne afterTwo afterThree
 fit-order = orderly-is 3 7 63 (omega arith) (omega arith) (omega arith) refl tt
+
+-- the face after face t - 1 is face t, and a face of the order is a good one, by whatever name it is known
+module _ {u n count : ℕ} (O : Ordered u n count) where
+  pub stepped : (t : ℕ) (f g : Face) → 1 ≤ t → t < count → f ≡ faceAt u n (t - 1) → g ≡ nextOf n f → g ≡ faceAt u n t
+  stepped t f g l m e d =
+      let k : t - 1 + 1 ≡ t = omega arith in
+      d ∙ ap (nextOf n) e ∙ O .step (t - 1) (omega arith) ∙ ap (faceAt u n) k
+
+  pub good-at : (t : ℕ) (f : Face) → t < count → f ≡ faceAt u n t → Good u n f
+  good-at t f l e = subst (Good u n) (sym e) (O .good t l)
+
+-- every face that comes after one has a constraint
+next-some : (n : ℕ) (f : Face) → 0 < nextOf n f .size
+unfolding nextOf afterOne afterTwo afterThree
+next-some n f =
+    let P : Face → Type 0 = λ f. 0 < f .size in
+    let one : 0 < 1 = omega arith in
+    let two : 0 < 2 = omega arith in
+    let three : 0 < 3 = omega arith in
+    cond-ind P (eqb (f .size) 0) one
+    (cond-ind P (eqb (f .size) 1) (cond-ind P (ltb (f .a + 1) n) one two)
+    (cond-ind P (eqb (f .size) 2) (cond-ind P (ltb (f .b + 1) n) two (cond-ind P (ltb (f .a + 2) n) two three))
+    (cond-ind P (ltb (f .c + 1) n) three (cond-ind P (ltb (f .b + 2) n) three (cond-ind P (ltb (f .a + 3) n) three three)))))
+
+-- so has every face but the first
+pub face-some : (t : ℕ) → 0 < t → t < 64 → 0 < faceAt 3 7 t .size
+face-some zero h l = absurd (omega arith)
+face-some (suc t) h l =
+    let e : t + 1 ≡ suc t = omega arith in
+    subst (λ (k : ℕ). 0 < faceAt 3 7 k .size) e (subst (λ (f : Face). 0 < f .size) (fit-order .step t (omega arith)) (next-some 7 (faceAt 3 7 t)))
 
 -- how many
 pub fit-count : length (setsUpTo 3 7) ≡ 64

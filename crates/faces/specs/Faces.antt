@@ -5,7 +5,7 @@ use Prim.Native.Nat.{ℕ, zero, suc}
 use lib.Dec.{eqb}
 use lib.ListN.{length, getD, set, replicate}
 use Rattle.laws.specs.Loop.{for}
-use Rattle.cell.specs.declared.Face.{Face}
+use Rattle.faces.specs.declared.Face.{Face}
 
 -- every set of k of the m numbers from a on, its members rising, in dictionary order: those with a, then those without
 unfoldable pub sets : ℕ → ℕ → ℕ → List (List ℕ)

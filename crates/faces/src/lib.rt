@@ -1,14 +1,19 @@
 // The faces in their order: sets of constraints, by size, then in dictionary order, each worked out from the one before.
 ghost use mathlib.Core.Path.{_≡_};
-ghost use Prim.Native.Nat.{_<_};
-ghost use Rattle.cell.specs.Faces.{memberOf, marksOf};
-ghost use Rattle.cell.specs.Next.{afterOne, afterTwo, afterThree, nextOf, Good};
-use crate::Face;
+ghost use Rattle.faces.specs.Faces.{memberOf, marksOf};
+ghost use Rattle.faces.specs.Next.{afterOne, afterTwo, afterThree, nextOf};
+
+// A face: how many of its constraints are held, and which, rising; what is not used is 0.
+pub struct Face {
+    pub size: usize,
+    pub a: usize,
+    pub b: usize,
+    pub c: usize,
+}
 
 // Member number s of a face.
-pub(crate) fn member(f: Face, s: usize) -> usize
-    requires { ⌜ Good 3 7 f ⌝ }
-    ensures { λ r. ⌜ (r ≡ memberOf f s) × (r < 7) ⌝ }
+fn member(f: Face, s: usize) -> usize
+    ensures { λ r. ⌜ r ≡ memberOf f s ⌝ }
 {
     if s == 0 {
         return f.a;
@@ -19,12 +24,11 @@ pub(crate) fn member(f: Face, s: usize) -> usize
     f.c
 }
 
-// The face after one of one constraint, of n.
-fn after_one(f: Face, n: usize) -> Face
-    requires { ⌜ (f .a < 7) × (f .b < 7) × (f .c < 7) ⌝ }
-    ensures { λ r. ⌜ r ≡ afterOne n f ⌝ }
+// The face after one of one constraint, of seven.
+fn after_one(f: Face) -> Face
+    ensures { λ r. ⌜ r ≡ afterOne 7 f ⌝ }
 {
-    if f.a + 1 < n {
+    if f.a < 6 {
         return Face {
             size: 1,
             a: f.a + 1,
@@ -40,11 +44,10 @@ fn after_one(f: Face, n: usize) -> Face
     }
 }
 
-fn after_two(f: Face, n: usize) -> Face
-    requires { ⌜ (f .a < 7) × (f .b < 7) × (f .c < 7) ⌝ }
-    ensures { λ r. ⌜ r ≡ afterTwo n f ⌝ }
+fn after_two(f: Face) -> Face
+    ensures { λ r. ⌜ r ≡ afterTwo 7 f ⌝ }
 {
-    if f.b + 1 < n {
+    if f.b < 6 {
         return Face {
             size: 2,
             a: f.a,
@@ -52,7 +55,7 @@ fn after_two(f: Face, n: usize) -> Face
             c: 0,
         };
     }
-    if f.a + 2 < n {
+    if f.a < 5 {
         return Face {
             size: 2,
             a: f.a + 1,
@@ -68,11 +71,10 @@ fn after_two(f: Face, n: usize) -> Face
     }
 }
 
-fn after_three(f: Face, n: usize) -> Face
-    requires { ⌜ (f .a < 7) × (f .b < 7) × (f .c < 7) ⌝ }
-    ensures { λ r. ⌜ r ≡ afterThree n f ⌝ }
+fn after_three(f: Face) -> Face
+    ensures { λ r. ⌜ r ≡ afterThree 7 f ⌝ }
 {
-    if f.c + 1 < n {
+    if f.c < 6 {
         return Face {
             size: 3,
             a: f.a,
@@ -80,12 +82,20 @@ fn after_three(f: Face, n: usize) -> Face
             c: f.c + 1,
         };
     }
-    if f.b + 2 < n {
+    if f.b < 5 {
         return Face {
             size: 3,
             a: f.a,
             b: f.b + 1,
             c: f.b + 2,
+        };
+    }
+    if f.a >= 4 {
+        return Face {
+            size: 3,
+            a: f.a,
+            b: f.b,
+            c: f.c,
         };
     }
     Face {
@@ -96,10 +106,9 @@ fn after_three(f: Face, n: usize) -> Face
     }
 }
 
-// The face after f.
-pub(crate) fn next(f: Face, n: usize) -> Face
-    requires { ⌜ (f .a < 7) × (f .b < 7) × (f .c < 7) ⌝ }
-    ensures { λ r. ⌜ r ≡ nextOf n f ⌝ }
+// The face after f, of at most three of seven constraints. The last one stays.
+pub fn next(f: Face) -> Face
+    ensures { λ r. ⌜ r ≡ nextOf 7 f ⌝ }
 {
     if f.size == 0 {
         return Face {
@@ -110,23 +119,24 @@ pub(crate) fn next(f: Face, n: usize) -> Face
         };
     }
     if f.size == 1 {
-        return after_one(f, n);
+        return after_one(f);
     }
     if f.size == 2 {
-        return after_two(f, n);
+        return after_two(f);
     }
-    after_three(f, n)
+    after_three(f)
 }
 
-// The seven marks of a face.
-pub(crate) fn marks(f: Face) -> [bool; 7]
-    requires { ⌜ Good 3 7 f ⌝ }
+// The seven marks of a face; a member that is none of the seven has none.
+pub fn marks(f: Face) -> [bool; 7]
     ensures { λ r. ⌜ r ≡ marksOf f ⌝ }
 {
     let mut t = [false; 7];
     for s in 0..f.size {
         let c = member(f, s);
-        t[c] = true;
+        if c < 7 {
+            t[c] = true;
+        }
     }
     t
 }

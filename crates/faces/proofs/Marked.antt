@@ -2,7 +2,7 @@
 use mathlib.Core.Path.{_≡_, refl}
 use mathlib.Core.List.{[], _∷_}
 use lib.ListN.{length, getD}
-use Rattle.cell.specs.Faces.{sets, setsUpTo}
+use Rattle.faces.specs.Faces.{sets, setsUpTo}
 
 -- the pairs alone, and where they stand in the order of the fit: after the empty face and the seven of one constraint
 pub m10 :

@@ -1,11 +1,12 @@
--- The face after a face, worked out from it, and what the code needs of an order of faces. No reader has to believe this: no public contract cites it, and proofs/Orders shows that it walks the order of Faces. Definitions only.
+-- The face after a face, worked out from it: the contract of the public `next` cites this, so who calls it has to believe it; proofs/Orders shows that it walks the order of Faces.
+-- What the code needs of an order of faces. Definitions only.
 use mathlib.Core.Path.{_≡_}
 use mathlib.Core.Bool.{cond}
 use mathlib.Core.List.{[]}
 use Prim.Native.Nat.{ℕ, _+_, _≤_, _<_}
 use lib.Dec.{eqb, ltb}
-use Rattle.cell.specs.declared.Face.{Face}
-use Rattle.cell.specs.Faces.{faceOf, faceAt}
+use Rattle.faces.specs.declared.Face.{Face}
+use Rattle.faces.specs.Faces.{faceOf, faceAt}
 
 -- after a face of one constraint, of n
 unfoldable pub afterOne : ℕ → Face → Face
@@ -16,10 +17,12 @@ afterTwo n f =
     cond (ltb (f .b + 1) n) (record { size = 2; a = f .a; b = f .b + 1; c = 0 })
     (cond (ltb (f .a + 2) n) (record { size = 2; a = f .a + 1; b = f .a + 2; c = 0 }) (record { size = 3; a = 0; b = 1; c = 2 }))
 
+-- the last one stays
 unfoldable pub afterThree : ℕ → Face → Face
 afterThree n f =
     cond (ltb (f .c + 1) n) (record { size = 3; a = f .a; b = f .b; c = f .c + 1 })
-    (cond (ltb (f .b + 2) n) (record { size = 3; a = f .a; b = f .b + 1; c = f .b + 2 }) (record { size = 3; a = f .a + 1; b = f .a + 2; c = f .a + 3 }))
+    (cond (ltb (f .b + 2) n) (record { size = 3; a = f .a; b = f .b + 1; c = f .b + 2 })
+    (cond (ltb (f .a + 3) n) (record { size = 3; a = f .a + 1; b = f .a + 2; c = f .a + 3 }) (record { size = 3; a = f .a; b = f .b; c = f .c })))
 
 unfoldable pub nextOf : ℕ → Face → Face
 nextOf n f =
