@@ -27,10 +27,11 @@ use Rattle.search.proofs.Passes.{pass-stands}
 use Rattle.search.proofs.Least.{refusal, yields}
 use Rattle.weights.specs.Weights.{scaledOf, allGood}
 use Rattle.weights.proofs.Places.{scaled-length}
-use Rattle.calibrate.specs.declared.FitConfig.{FitConfig}
+use Rattle.records.specs.declared.FitConfig.{FitConfig}
 use Rattle.calibrate.specs.declared.Sums.{Sums}
-use Rattle.calibrate.specs.Settings.{settingsHold}
-use Rattle.calibrate.specs.Entry.{lengthsHold, sizesHold, passes, allPass, rangeOf}
+use Rattle.records.specs.Settings.{settingsHold, sizesHold}
+use Rattle.calibrate.specs.Entry.{lengthsHold, allPass, rangeOf}
+use Rattle.records.specs.Observation.{passes}
 use Rattle.calibrate.specs.End.{readingOf, residualAt, addedTo, sumsOf, highestOf, paramsHold, rmseHolds}
 use Rattle.calibrate.specs.Fit.{planOf, limitsOf, fitSearch}
 use Rattle.calibrate.proofs.Known.{lengths-are}

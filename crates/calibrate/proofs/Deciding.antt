@@ -14,13 +14,13 @@ use Rattle.slice.specs.Slice.{evalRaw}
 use Rattle.exponent.specs.Exp.{expOf}
 use Rattle.exponent.specs.Ln.{lnOf}
 use Rattle.laws.specs.Floats.{_+f_, _-f_, _*f_}
-use Rattle.search.specs.declared.Counts.{Counts}
+use Rattle.records.specs.declared.Counts.{Counts}
 use Rattle.search.specs.declared.Found.{Found}
 use Rattle.search.specs.declared.Plan.{Plan}
 use Rattle.search.specs.declared.Search.{Search}
 use Rattle.search.specs.Search.{startOf, searchOf}
 use Rattle.search.specs.Run.{fitCell, sizesHold, runOf}
-use Rattle.calibrate.specs.declared.FitConfig.{FitConfig}
+use Rattle.records.specs.declared.FitConfig.{FitConfig}
 use Rattle.calibrate.specs.declared.Reading.{Reading}
 use Rattle.calibrate.specs.declared.Residual.{Residual}
 use Rattle.calibrate.specs.Entry.{rangeOf}

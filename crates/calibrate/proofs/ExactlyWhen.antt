@@ -17,9 +17,9 @@ use Rattle.laws.proofs.Comparing.{lt-or-le}
 use Rattle.slice.specs.declared.SviSlice.{SviSlice}
 use Rattle.slice.specs.Slice.{numberOf}
 use Rattle.weights.specs.Weights.{scaledOf, allGood}
-use Rattle.calibrate.specs.declared.FitConfig.{FitConfig}
-use Rattle.calibrate.specs.Settings.{settingsHold}
-use Rattle.calibrate.specs.Entry.{lengthsHold, sizesHold, allPass, spanOf, checksNumber, entryNumber}
+use Rattle.records.specs.declared.FitConfig.{FitConfig}
+use Rattle.records.specs.Settings.{settingsHold, sizesHold}
+use Rattle.calibrate.specs.Entry.{lengthsHold, allPass, spanOf, checksNumber, entryNumber}
 use Rattle.calibrate.specs.End.{sumsOf, highestOf, paramsHold, rmseHolds}
 use Rattle.calibrate.specs.Fit.{fitSearch, fitOf}
 use Rattle.calibrate.proofs.EachNumber.{lateNumber, answer-number}

@@ -14,9 +14,9 @@ use Rattle.cell.specs.Cell.{inRange}
 use Rattle.weights.specs.declared.Weights.{Weights}
 use Rattle.weights.specs.Weights.{capOf, scaledOf, allGood, weighed, weightsOf}
 use Rattle.weights.proofs.Places.{weights-are, take-weighed, scaled-length}
-use Rattle.calibrate.specs.declared.FitConfig.{FitConfig}
-use Rattle.calibrate.specs.Settings.{settingsHold}
-use Rattle.calibrate.specs.Entry.{lengthsHold, sizesHold, allPass, checksNumber, entryNumber}
+use Rattle.records.specs.declared.FitConfig.{FitConfig}
+use Rattle.records.specs.Settings.{settingsHold, sizesHold}
+use Rattle.calibrate.specs.Entry.{lengthsHold, allPass, checksNumber, entryNumber}
 use Rattle.calibrate.specs.Sized.{Sized}
 
 -- ---- each check, from its test

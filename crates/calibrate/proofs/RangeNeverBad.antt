@@ -16,7 +16,7 @@ use Rattle.laws.proofs.Loops.{for-ind}
 use Rattle.laws.proofs.Order.{lt-le-trans, lt→le, le-self, le-trans}
 use Rattle.slice.specs.declared.KRange.{KRange}
 use Rattle.slice.specs.Slice.{rangeNumber}
-use Rattle.calibrate.specs.declared.FitConfig.{FitConfig}
+use Rattle.records.specs.declared.FitConfig.{FitConfig}
 use Rattle.calibrate.specs.Entry.{rangeOf, entryNumber}
 use Rattle.calibrate.specs.End.{sliceOf}
 use Rattle.calibrate.specs.When.{tried}

@@ -18,11 +18,12 @@ use Rattle.search.specs.Run.{fitCell, fitFace}
 use Rattle.search.proofs.FitCells.{fit-chosen}
 use Rattle.search.proofs.NoBetterFace.{no-better-face}
 use Rattle.weights.specs.Weights.{cappedOf}
-use Rattle.calibrate.specs.declared.FitConfig.{FitConfig}
-use Rattle.calibrate.specs.declared.FitAnswer.{FitAnswer}
+use Rattle.records.specs.declared.FitConfig.{FitConfig}
+use Rattle.records.specs.declared.FitAnswer.{FitAnswer}
 use Rattle.calibrate.specs.declared.Sums.{Sums}
 use Rattle.calibrate.specs.Entry.{rangeOf, entryNumber}
-use Rattle.calibrate.specs.End.{refusedWith, marksAt, sliceOf, sumsOf, paramsHold, rmseOf, rmseHolds, acceptedOf, endOf}
+use Rattle.records.specs.Answer.{refusedWith}
+use Rattle.calibrate.specs.End.{marksAt, sliceOf, sumsOf, paramsHold, rmseOf, rmseHolds, acceptedOf, endOf}
 use Rattle.calibrate.specs.Fit.{fitSearch, bestEnd, searchEnd, decidedOf, cappedAs, fitOf}
 use Rattle.calibrate.specs.Searched.{scaledFor, aMaxFor, limitsFor, planFor, searchFor, FromFound, Searched}
 use Rattle.calibrate.proofs.Known.{passed, entered, in-range}

@@ -13,8 +13,9 @@ use Rattle.laws.proofs.Floats.{finite-no-nan}
 use Rattle.weights.specs.Weights.{sortOf, scaledOf}
 use Rattle.weights.proofs.Sorted.{Number, each-at, Rising, rising-sort}
 use Rattle.weights.proofs.Shares.{Shares, shares}
-use Rattle.calibrate.specs.declared.FitConfig.{FitConfig}
-use Rattle.calibrate.specs.Entry.{lengthsHold, sizesHold, allPass, checksNumber, entryNumber}
+use Rattle.records.specs.declared.FitConfig.{FitConfig}
+use Rattle.calibrate.specs.Entry.{lengthsHold, allPass, checksNumber, entryNumber}
+use Rattle.records.specs.Settings.{sizesHold}
 use Rattle.calibrate.proofs.Known.{passed, entered}
 use Rattle.calibrate.proofs.Conditions.{observations-pass}
 

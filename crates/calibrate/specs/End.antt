@@ -3,7 +3,7 @@ use mathlib.Core.Bool.{Bool, true, false, _&&_, _||_, cond}
 use mathlib.Core.List.{List}
 use Prim.Native.Nat.{ℕ}
 use lib.Dec.{eqb}
-use lib.ListN.{length, getD, set, replicate}
+use lib.ListN.{length, getD, set}
 use lib.Ieee.{Float, lt, le, neg}
 use Rattle.laws.specs.Loop.{for}
 use Rattle.laws.specs.Choice.{unless}
@@ -16,39 +16,13 @@ use Rattle.slice.specs.declared.Evaluated.the-variants as evaluated
 use Rattle.slice.specs.Slice.{numberOf, evalRaw, leeOf, leeBound}
 use Rattle.cell.specs.declared.Cell.{Cell}
 use Rattle.polytope.specs.Polytope.{rowsOf, boundsOf, spreadOf, dotOf}
-use Rattle.search.specs.declared.Counts.{Counts}
-use Rattle.search.specs.Search as search
-use Rattle.calibrate.specs.declared.FitConfig.{FitConfig}
-use Rattle.calibrate.specs.declared.FitAnswer.{FitAnswer}
+use Rattle.records.specs.declared.Counts.{Counts}
+use Rattle.records.specs.declared.FitConfig.{FitConfig}
+use Rattle.records.specs.declared.FitAnswer.{FitAnswer}
+use Rattle.records.specs.Answer.{refusedWith}
 use Rattle.calibrate.specs.declared.Reading.{Reading}
 use Rattle.calibrate.specs.declared.Residual.{Residual}
 use Rattle.calibrate.specs.declared.Sums.{Sums}
-
--- ---- refusals: zeros but for what is named
-
-abbrev pub noSlice : SviSlice
-noSlice = record { tau = +0; a = +0; b = +0; rho = +0; m = +0; sigma = +0; «k_range» = record { lo = +0; hi = +0 } }
-
-abbrev pub noCounts : Counts
-noCounts = search.noCounts
-
-unfoldable pub refusedWith : ℕ → ℕ → ℕ → Float → Float → Counts → FitAnswer
-refusedWith number observed required rmse most counts =
-    record {
-      number = number;
-      observed = observed;
-      required = required;
-      «rmse_vol» = rmse;
-      «max_rmse_vol» = most;
-      slice = noSlice;
-      objective = +0;
-      «objective_params» = +0;
-      «lee_margin» = +0;
-      «a_margin» = +0;
-      active = replicate 7 false;
-      counts = counts;
-      capped = 0;
-    }
 
 -- ---- the active set: the face's constraints, and any other at its bound within the tolerance
 

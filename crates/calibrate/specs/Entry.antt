@@ -4,32 +4,19 @@ use mathlib.Core.List.{List}
 use Prim.Native.Nat.{ℕ, _*_}
 use lib.Dec.{eqb, leb}
 use lib.ListN.{length}
-use lib.Ieee.{Float, le, neg}
+use lib.Ieee.{Float, neg}
 use Rattle.laws.specs.Loop.{for}
 use Rattle.laws.specs.Choice.{unless}
-use Rattle.laws.specs.Floats.{_-f_, _/f_, +0, one, at, finite, positive, minOf, maxOf}
+use Rattle.laws.specs.Floats.{_-f_, _/f_, +0, one, at, positive, minOf, maxOf}
 use Rattle.slice.specs.declared.KRange.{KRange}
 use Rattle.weights.specs.Weights.{scaledOf, allGood}
-use Rattle.calibrate.specs.declared.FitConfig.{FitConfig}
-use Rattle.calibrate.specs.declared.Observed.{Observed}
-use Rattle.calibrate.specs.declared.Observed.the-variants as observed
-use Rattle.calibrate.specs.Settings.{settingsHold}
+use Rattle.records.specs.declared.FitConfig.{FitConfig}
+use Rattle.records.specs.Settings.{settingsHold, sizesHold}
+use Rattle.records.specs.Observation.{passes}
 
 -- 12: equal lengths; room for four residual numbers and one capped position an observation
 unfoldable pub lengthsHold : List Float → List Float → List Float → ℕ → ℕ → Bool
 lengthsHold ks ws ts room slots = eqb (length ks) (length ws) && eqb (length ks) (length ts) && leb (length ks * 4) room && leb (length ks) slots
-
--- 11: at most 256 observations, grid at most 255, refinements and max_recentres at most 1,000
-unfoldable pub sizesHold : ℕ → FitConfig → Bool
-sizesHold n c = leb n 256 && leb (c .grid) 255 && leb (c .refinements) 1000 && leb (c .«max_recentres») 1000
-
--- 10, of one observation: k finite, w finite and >= 0, the weight finite and > 0
-abbrev pub passes : Float → Float → Float → Bool
-passes k w t = finite k && finite w && le +0 w && positive t
-
--- `SliceObservation::new`
-unfoldable pub observedOf : Float → Float → Float → Observed
-observedOf k w t = unless (passes k w t) (observed.Refused 10) (observed.At (record { k = k; w = w; weight = t }))
 
 unfoldable pub allPass : List Float → List Float → List Float → Bool
 allPass ks ws ts = for 0 (length ks) (λ i b. b && passes (at ks i) (at ws i) (at ts i)) true

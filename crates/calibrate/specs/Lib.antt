@@ -1,4 +1,3 @@
-pub mod Settings
 pub mod Entry
 pub mod End
 pub mod When

@@ -4,7 +4,7 @@ use mathlib.Core.List.{List}
 use Prim.Native.Nat.{_≤_}
 use lib.ListN.{length}
 use lib.Ieee.{Float}
-use Rattle.calibrate.specs.declared.FitConfig.{FitConfig}
+use Rattle.records.specs.declared.FitConfig.{FitConfig}
 
 pub record Sized (c : FitConfig) (ks ws ts : List Float) : Type 0 where
   pub least : 5 ≤ length ks

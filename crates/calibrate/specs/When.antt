@@ -17,10 +17,11 @@ use Rattle.search.specs.declared.Plan.{Plan}
 use Rattle.search.specs.declared.Search.{Search}
 use Rattle.search.specs.Search.{CellFn, cellAt, afterPasses}
 use Rattle.search.specs.Run.{fitCell}
-use Rattle.calibrate.specs.declared.FitConfig.{FitConfig}
-use Rattle.calibrate.specs.declared.FitAnswer.{FitAnswer}
+use Rattle.records.specs.declared.FitConfig.{FitConfig}
+use Rattle.records.specs.declared.FitAnswer.{FitAnswer}
 use Rattle.calibrate.specs.Entry.{rangeOf, spanOf}
-use Rattle.calibrate.specs.End.{noCounts, refusedWith, marksAt, sliceOf, sumsOf, highestOf, rmseOf}
+use Rattle.records.specs.Answer.{noCounts, refusedWith}
+use Rattle.calibrate.specs.End.{marksAt, sliceOf, sumsOf, highestOf, rmseOf}
 use Rattle.calibrate.specs.Fit.{planOf, limitsOf, fitSearch}
 
 -- P holds of some number below n

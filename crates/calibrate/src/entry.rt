@@ -1,9 +1,9 @@
 // The entry checks that come before the weights, and what they read off the observations.
 ghost use mathlib.Core.Path.{_≡_};
 ghost use lib.ListN.{length};
-ghost use Rattle.calibrate.specs.Entry.{lengthsHold, sizesHold, allPass, rangeOf, spanOf, checksNumber};
+ghost use Rattle.calibrate.specs.Entry.{lengthsHold, allPass, rangeOf, spanOf, checksNumber};
 ghost use Rattle.calibrate.specs.End.{highestOf};
-use crate::FitConfig;
+use records::FitConfig;
 use slice::KRange;
 
 fn lengths_hold(k: &[f64], w: &[f64], weight: &[f64], room: usize, slots: usize) -> bool
@@ -13,22 +13,13 @@ fn lengths_hold(k: &[f64], w: &[f64], weight: &[f64], room: usize, slots: usize)
     (n == w.len()) & (n == weight.len()) & (n * 4 <= room) & (n <= slots)
 }
 
-fn sizes_hold(n: usize, config: FitConfig) -> bool
-    ensures { λ r. ⌜ r ≡ sizesHold n config ⌝ }
-{
-    (n <= 256)
-        & (config.grid <= 255)
-        & (config.refinements <= 1000)
-        & (config.max_recentres <= 1000)
-}
-
 fn all_pass(k: &[f64], w: &[f64], weight: &[f64]) -> bool
     requires { ⌜ (length (now w) ≡ length (now k)) × (length (now weight) ≡ length (now k)) ⌝ }
     ensures { λ r. ⌜ r ≡ allPass (now (k .entry)) (now (w .entry)) (now (weight .entry)) ⌝ }
 {
     let mut ok = true;
     for i in 0..k.len() {
-        ok = ok & crate::passes(k[i], w[i], weight[i]);
+        ok = ok & records::passes(k[i], w[i], weight[i]);
     }
     ok
 }
@@ -84,7 +75,7 @@ pub(crate) fn checks(
     if !lengths {
         return 12;
     }
-    let sizes = sizes_hold(k.len(), config);
+    let sizes = records::sizes_hold(k.len(), config);
     if !sizes {
         return 11;
     }
@@ -96,14 +87,14 @@ pub(crate) fn checks(
     if !settings {
         return 1;
     }
-    let expiry = crate::is_positive(tau);
+    let expiry = records::is_positive(tau);
     if !expiry {
         return 2;
     }
     if k.len() < config.min_observations {
         return 3;
     }
-    let wide = crate::is_positive(span_of(k));
+    let wide = records::is_positive(span_of(k));
     if !wide {
         return 4;
     }

@@ -6,6 +6,7 @@ pub mod SettledSlice
 pub mod SettledPoint
 pub mod SettledSurface
 pub mod SettledDiagnostics
+pub mod SettledRecords
 pub mod SettledSolver
 pub mod SettledPolytope
 pub mod SettledCell

@@ -6,7 +6,8 @@ use Rattle.laws.specs.Loop.{for}
 use Rattle.laws.specs.Floats.{at}
 use Rattle.laws.proofs.Loops.{again, ended}
 use mathlib.Core.Bool.{Bool, _&&_}
-use Rattle.calibrate.specs.Entry.{passes, allPass}
+use Rattle.records.specs.Observation.{passes}
+use Rattle.calibrate.specs.Entry.{allPass}
 use native.Mathlib.Omega.{arith}
 use Rattle.calibrate.proofs.entry.all_pass.Statement.{statement}
 use Rattle.calibrate.proofs.entry.all_pass.Tie as tie

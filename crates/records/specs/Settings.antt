@@ -1,9 +1,10 @@
--- The eleven settings of the fit: their defaults, and their ranges. Definitions only.
+-- The eleven settings of the fit: their defaults, their ranges, and their sizes. Definitions only.
 use mathlib.Core.Bool.{Bool, _&&_}
+use Prim.Native.Nat.{ℕ}
 use lib.Dec.{leb}
 use lib.Ieee.{lt}
 use Rattle.laws.specs.Floats.{f64, positive}
-use Rattle.calibrate.specs.declared.FitConfig.{FitConfig}
+use Rattle.records.specs.declared.FitConfig.{FitConfig}
 
 -- `FitConfig::default`: 21, 12, 40, 0.005, 10, 1e-8, 5, 0.02, 1e-12, 1e-12, 10
 abbrev pub defaultsOf : FitConfig
@@ -31,3 +32,7 @@ settingsHold c =
     && (positive (c .«a_min») && positive (c .«max_rmse_vol»))
     && (positive (c .«pivot_tolerance») && positive (c .«feasibility_tolerance») && positive (c .«max_weight_ratio»))
     && lt (c .«sigma_lo») (c .«sigma_hi»)
+
+-- 11: at most 256 observations, grid at most 255, refinements and max_recentres at most 1,000
+unfoldable pub sizesHold : ℕ → FitConfig → Bool
+sizesHold n c = leb n 256 && leb (c .grid) 255 && leb (c .refinements) 1000 && leb (c .«max_recentres») 1000

@@ -1,9 +1,9 @@
--- `calibrate::SliceObservation::new` meets its contract. Assumes nothing.
+-- `records::SliceObservation::new` meets its contract. Assumes nothing.
 use mathlib.Core.Path.{refl}
 use Rattle.laws.proofs.Choices.{stops, goes}
-use Rattle.calibrate.specs.Entry.{observedOf}
-use Rattle.calibrate.proofs.SliceObservation.new.Statement.{statement}
-use Rattle.calibrate.proofs.SliceObservation.new.Tie as tie
+use Rattle.records.specs.Observation.{observedOf}
+use Rattle.records.proofs.SliceObservation.new.Statement.{statement}
+use Rattle.records.proofs.SliceObservation.new.Tie as tie
 
 returns : tie.Need-returns
 unfolding observedOf

@@ -1,10 +1,10 @@
--- `calibrate::FitConfig::validate` meets its contract. Assumes nothing.
+-- `records::FitConfig::validate` meets its contract. Assumes nothing.
 use mathlib.Core.Bool.{_&&_}
 use lib.Dec.{leb}
 use lib.Ieee.{lt}
-use Rattle.calibrate.specs.Settings.{settingsHold}
-use Rattle.calibrate.proofs.FitConfig.validate.Statement.{statement}
-use Rattle.calibrate.proofs.FitConfig.validate.Tie as tie
+use Rattle.records.specs.Settings.{settingsHold}
+use Rattle.records.proofs.FitConfig.validate.Statement.{statement}
+use Rattle.records.proofs.FitConfig.validate.Tie as tie
 
 returns : tie.Need-returns
 unfolding settingsHold
