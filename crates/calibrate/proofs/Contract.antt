@@ -10,7 +10,7 @@ use Rattle.laws.proofs.Rooms.{kept, wrote}
 use Rattle.weights.specs.Weights.{cappedAt, cappedOf, capOf, scaledOf}
 use Rattle.records.specs.declared.FitConfig.{FitConfig}
 use Rattle.records.specs.declared.FitAnswer.{FitAnswer}
-use Rattle.calibrate.specs.Entry.{entryNumber}
+use Rattle.entry.specs.Entry.{entryNumber}
 use Rattle.calibrate.specs.Fit.{fitOf, decidedOf, cappedAs, residualsOf, Fitted}
 use Rattle.calibrate.proofs.Quads.{residuals-length}
 

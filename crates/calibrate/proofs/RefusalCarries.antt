@@ -16,11 +16,13 @@ use Rattle.weights.specs.Weights.{scaledOf, allGood, cappedOf}
 use Rattle.records.specs.declared.FitConfig.{FitConfig}
 use Rattle.records.specs.declared.FitAnswer.{FitAnswer}
 use Rattle.records.specs.Settings.{settingsHold, sizesHold}
-use Rattle.calibrate.specs.Entry.{lengthsHold, allPass, spanOf, checksNumber, entryNumber}
+use Rattle.entry.specs.Entry.{lengthsHold, allPass, spanOf, checksNumber, entryNumber}
 use Rattle.records.specs.Answer.{noCounts, refusedWith}
-use Rattle.calibrate.specs.End.{sumsOf, highestOf, paramsHold, rmseHolds, acceptedOf, endOf}
+use Rattle.judge.specs.Judge.{sumsOf, highestOf, paramsHold, rmseHolds}
+use Rattle.calibrate.specs.End.{acceptedOf, endOf}
 use Rattle.calibrate.specs.Fit.{fitSearch, bestEnd, searchEnd, decidedOf, refusedEarly, cappedAs, fitOf}
-use Rattle.calibrate.specs.When.{fitted, rmseAt, refusalOf}
+use Rattle.calibrate.specs.When.{fitted, refusalOf}
+use Rattle.judge.specs.When.{rmseAt}
 
 module _ (tau : Float) (c : FitConfig) (ks ws ts : List Float) (room slots : ℕ) where
   abbrev pub answer : FitAnswer

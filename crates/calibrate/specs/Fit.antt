@@ -25,9 +25,10 @@ use Rattle.search.specs.Search.{searchOf}
 use Rattle.search.specs.Run.{fitCell}
 use Rattle.records.specs.declared.FitConfig.{FitConfig}
 use Rattle.records.specs.declared.FitAnswer.{FitAnswer}
-use Rattle.calibrate.specs.Entry.{rangeOf, entryNumber}
+use Rattle.entry.specs.Entry.{rangeOf, entryNumber}
 use Rattle.records.specs.Answer.{noCounts, refusedWith}
-use Rattle.calibrate.specs.End.{marksAt, sliceOf, residualAt, highestOf, endOf}
+use Rattle.calibrate.specs.End.{marksAt, sliceOf, endOf}
+use Rattle.judge.specs.Judge.{residualAt, highestOf}
 
 -- ---- the search: m from k_min - R to k_max + R, ln sigma from ln (sigma_lo R) to ln (sigma_hi R), R = k_max - k_min
 

@@ -14,8 +14,9 @@ use Rattle.search.specs.Promised.{Promised}
 use Rattle.search.specs.Run.{fitCell, fitFace}
 use Rattle.records.specs.declared.FitConfig.{FitConfig}
 use Rattle.records.specs.declared.FitAnswer.{FitAnswer}
-use Rattle.calibrate.specs.Entry.{rangeOf}
-use Rattle.calibrate.specs.End.{marksAt, sliceOf, highestOf}
+use Rattle.entry.specs.Entry.{rangeOf}
+use Rattle.calibrate.specs.End.{marksAt, sliceOf}
+use Rattle.judge.specs.Judge.{highestOf}
 use Rattle.calibrate.specs.Fit.{planOf, limitsOf, fitSearch}
 
 -- ---- the words, for a fit of observations (k, w, weight) in ks, ws, ts with the settings c

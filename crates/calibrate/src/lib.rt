@@ -1,12 +1,11 @@
-// Calibration of one slice: settings, entry checks, the search, the end of the fit, and the two lent buffers.
+// Calibration of one slice: the entry checks, the plan of the search, the search, the end of the fit, and the two lent buffers.
 mod ending;
-mod entry;
 mod params;
 mod writing;
 
 ghost use mathlib.Core.Path.{_≡_};
 ghost use Rattle.calibrate.specs.Fit.{halfOf, planOf, limitsOf, decidedOf, refusedEarly, cappedAs, Fitted};
-ghost use Rattle.calibrate.specs.Sized.{Sized};
+ghost use Rattle.entry.specs.Sized.{Sized};
 use cell::Limits;
 use records::Counts;
 use records::FitAnswer;
@@ -15,27 +14,6 @@ use search::Axis;
 use search::Plan;
 use search::Window;
 use slice::KRange;
-
-// Whether a slice evaluates, and the fitted w.
-pub struct Reading {
-    pub ok: bool,
-    pub w: f64,
-}
-
-// Of one observation: whether the slice evaluates there, the fitted w, and the observed minus the fitted volatility.
-pub struct Residual {
-    pub ok: bool,
-    pub fitted: f64,
-    pub vol: f64,
-}
-
-// Over the observations: whether the slice evaluates, the squares of the vol residuals, objective_params, the total weight.
-pub struct Sums {
-    pub ok: bool,
-    pub squares: f64,
-    pub params: f64,
-    pub weight: f64,
-}
 
 // ---- the search
 
@@ -85,7 +63,7 @@ fn decided(tau: f64, config: FitConfig, k: &[f64], w: &[f64], ts: &[f64]) -> Fit
     ensures { λ r. ⌜ r ≡ decidedOf tau config (now (k .entry)) (now (w .entry)) (now (ts .entry)) ⌝ }
 {
     let range = entry::range_of(k);
-    let a_max = entry::highest(w, config.a_min);
+    let a_max = judge::highest(w, config.a_min);
     let plan = plan_of(config, range);
     let limits = limits_of(config, a_max);
     let s = search::run(k, w, ts, limits, plan);

@@ -11,6 +11,8 @@ pub mod SettledSolver
 pub mod SettledPolytope
 pub mod SettledCell
 pub mod SettledWeights
+pub mod SettledEntry
+pub mod SettledJudge
 pub mod SettledSearch
 pub mod SettledCalibrate
 pub mod SettledHouse

@@ -16,7 +16,7 @@ use Rattle.slice.specs.declared.SviSlice.{SviSlice}
 use Rattle.weights.specs.Weights.{scaledOf, cappedAt, cappedOf}
 use Rattle.records.specs.declared.FitConfig.{FitConfig}
 use Rattle.records.specs.declared.FitAnswer.{FitAnswer}
-use Rattle.calibrate.specs.Entry.{entryNumber}
+use Rattle.entry.specs.Entry.{entryNumber}
 use Rattle.records.specs.Answer.{refusedWith}
 use Rattle.calibrate.specs.Fit.{decidedOf, refusedEarly, cappedAs, fitOf, residualsOf}
 use Rattle.calibrate.proofs.Quads.{residuals-length}

@@ -20,10 +20,11 @@ use Rattle.weights.specs.Weights.{scaledOf, allGood, cappedOf}
 use Rattle.records.specs.declared.FitConfig.{FitConfig}
 use Rattle.records.specs.declared.FitAnswer.{FitAnswer}
 use Rattle.records.specs.Settings.{settingsHold, sizesHold}
-use Rattle.calibrate.specs.Entry.{lengthsHold, allPass as columnsPass, spanOf, checksNumber, entryNumber}
+use Rattle.entry.specs.Entry.{lengthsHold, allPass as columnsPass, spanOf, checksNumber, entryNumber}
 use Rattle.records.specs.Observation.{passes}
 use Rattle.records.specs.Answer.{refusedWith}
-use Rattle.calibrate.specs.End.{sumsOf, paramsHold, rmseOf, rmseHolds, acceptedOf, endOf}
+use Rattle.judge.specs.Judge.{sumsOf, paramsHold, rmseOf, rmseHolds}
+use Rattle.calibrate.specs.End.{acceptedOf, endOf}
 use Rattle.calibrate.specs.Fit.{fitSearch, bestEnd, searchEnd, decidedOf, refusedEarly, cappedAs, fitOf}
 use Rattle.house.specs.declared.House.{House}
 use Rattle.house.specs.declared.House.the-variants.{Malformed, File}
