@@ -8,9 +8,9 @@ use Rattle.laws.specs.Room.{written}
 use Rattle.laws.proofs.Choices.{number-goes}
 use Rattle.laws.proofs.Rooms.{kept, wrote}
 use Rattle.weights.specs.Weights.{cappedAt, cappedOf, capOf, scaledOf}
-use Rattle.calibrate.specs.declared.FitConfig.{FitConfig}
-use Rattle.calibrate.specs.declared.FitAnswer.{FitAnswer}
-use Rattle.calibrate.specs.Entry.{entryNumber}
+use Rattle.records.specs.declared.FitConfig.{FitConfig}
+use Rattle.records.specs.declared.FitAnswer.{FitAnswer}
+use Rattle.entry.specs.Entry.{entryNumber}
 use Rattle.calibrate.specs.Fit.{fitOf, decidedOf, cappedAs, residualsOf, Fitted}
 use Rattle.calibrate.proofs.Quads.{residuals-length}
 

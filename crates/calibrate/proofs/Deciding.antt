@@ -10,23 +10,21 @@ use Rattle.cell.specs.declared.Limits.{Limits}
 use Rattle.polytope.specs.Polytope.{rowsOf, boundsOf, spreadOf}
 use Rattle.slice.specs.declared.KRange.{KRange}
 use Rattle.slice.specs.declared.SviSlice.{SviSlice}
-use Rattle.slice.specs.Slice.{evalRaw}
 use Rattle.exponent.specs.Exp.{expOf}
 use Rattle.exponent.specs.Ln.{lnOf}
 use Rattle.laws.specs.Floats.{_+f_, _-f_, _*f_}
-use Rattle.search.specs.declared.Counts.{Counts}
+use Rattle.records.specs.declared.Counts.{Counts}
 use Rattle.search.specs.declared.Found.{Found}
 use Rattle.search.specs.declared.Plan.{Plan}
 use Rattle.search.specs.declared.Search.{Search}
 use Rattle.search.specs.Search.{startOf, searchOf}
 use Rattle.search.specs.Run.{fitCell, sizesHold, runOf}
-use Rattle.calibrate.specs.declared.FitConfig.{FitConfig}
-use Rattle.calibrate.specs.declared.Reading.{Reading}
-use Rattle.calibrate.specs.declared.Residual.{Residual}
-use Rattle.calibrate.specs.Entry.{rangeOf}
-use Rattle.calibrate.specs.End.{activeOf, marksAt, rhoOf, slopeOf, levelOf, sliceOf, residualAt, readingOf, volOf, highestOf, endOf}
+use Rattle.records.specs.declared.FitConfig.{FitConfig}
+use Rattle.entry.specs.Entry.{rangeOf}
+use Rattle.calibrate.specs.End.{activeOf, marksAt, rhoOf, slopeOf, levelOf, sliceOf, endOf}
+use Rattle.judge.specs.Judge.{highestOf}
 use Rattle.calibrate.specs.Fit.{halfOf, planOf, limitsOf, fitSearch, bestEnd, searchEnd, decidedOf}
-use Rattle.calibrate.specs.Sized.{Sized}
+use Rattle.entry.specs.Sized.{Sized}
 
 module _ (tau : Float) (c : FitConfig) (ks ws ts : List Float) (s : Sized c ks ws ts) where
   -- within the sizes the search is run
@@ -82,16 +80,6 @@ unfolding marksAt
 marks-are c high sigma best g h wide e1 e2 e3 =
     let f : wide ≡ spreadOf (boundsOf sigma (c .«a_min») high) = e3 ∙ ap spreadOf e2 in
     λ i. activeOf (best .active) (e1 i) (e2 i) (best .x) (neg (c .«feasibility_tolerance») *f f i)
-
--- a residual, from the fitted w and the two volatilities
-pub residual-is :
-    (s : SviSlice) (k w : Float) (e : Reading) (u v : Float)
-    → e ≡ readingOf (evalRaw s k) → u ≡ volOf (s .tau) w → v ≡ volOf (s .tau) (e .w)
-    → _≡_ {A = Residual} (record { ok = e .ok; fitted = e .w; vol = u -f v }) (residualAt s k w)
-unfolding residualAt
-residual-is s k w e u v e1 e2 e3 =
-    let f : v ≡ volOf (s .tau) (readingOf (evalRaw s k) .w) = e3 ∙ ap (λ (x : Reading). volOf (s .tau) (x .w)) e1 in
-    λ i. record { ok = e1 i .ok; fitted = e1 i .w; vol = e2 i -f f i }
 
 -- the plan of the search, from the two logarithms and the two half widths
 pub plan-is :

@@ -11,11 +11,13 @@ use Rattle.laws.specs.Choice.{unless}
 use Rattle.laws.proofs.Choices.{if-true, if-false}
 use Rattle.slice.specs.Slice.{numberOf}
 use Rattle.weights.specs.Weights.{scaledOf, cappedOf}
-use Rattle.calibrate.specs.declared.FitConfig.{FitConfig}
-use Rattle.calibrate.specs.declared.FitAnswer.{FitAnswer}
-use Rattle.calibrate.specs.declared.Sums.{Sums}
-use Rattle.calibrate.specs.Entry.{entryNumber}
-use Rattle.calibrate.specs.End.{refusedWith, sumsOf, paramsHold, rmseOf, rmseHolds, acceptedOf, endOf}
+use Rattle.records.specs.declared.FitConfig.{FitConfig}
+use Rattle.records.specs.declared.FitAnswer.{FitAnswer}
+use Rattle.judge.specs.declared.Sums.{Sums}
+use Rattle.entry.specs.Entry.{entryNumber}
+use Rattle.records.specs.Answer.{refusedWith}
+use Rattle.judge.specs.Judge.{sumsOf, paramsHold, rmseOf, rmseHolds}
+use Rattle.calibrate.specs.End.{acceptedOf, endOf}
 pub use Rattle.calibrate.specs.When.{found, aMax, sigma, active, fitted}
 use Rattle.calibrate.specs.Fit.{bestEnd, searchEnd, decidedOf, refusedEarly, cappedAs, fitOf}
 

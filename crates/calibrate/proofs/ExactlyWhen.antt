@@ -17,15 +17,20 @@ use Rattle.laws.proofs.Comparing.{lt-or-le}
 use Rattle.slice.specs.declared.SviSlice.{SviSlice}
 use Rattle.slice.specs.Slice.{numberOf}
 use Rattle.weights.specs.Weights.{scaledOf, allGood}
-use Rattle.calibrate.specs.declared.FitConfig.{FitConfig}
-use Rattle.calibrate.specs.Settings.{settingsHold}
-use Rattle.calibrate.specs.Entry.{lengthsHold, sizesHold, allPass, spanOf, checksNumber, entryNumber}
-use Rattle.calibrate.specs.End.{sumsOf, highestOf, paramsHold, rmseHolds}
+use Rattle.records.specs.declared.FitConfig.{FitConfig}
+use Rattle.records.specs.Settings.{settingsHold, sizesHold}
+use Rattle.entry.specs.Entry.{lengthsHold, allPass, spanOf, checksNumber, entryNumber}
+use Rattle.judge.specs.Judge.{sumsOf, highestOf, paramsHold, rmseHolds}
 use Rattle.calibrate.specs.Fit.{fitSearch, fitOf}
 use Rattle.calibrate.proofs.EachNumber.{lateNumber, answer-number}
 use Rattle.calibrate.specs.When as when
-use Rattle.calibrate.specs.When.{Some, UnequalOrShort, OverSize, BadObservation, BadSettings, EntryFails, FacelessPass, OnEdge, OutOfDomain, RmseAboveMax, rmseAt, turn}
-use Rattle.calibrate.proofs.Conditions as test
+use Rattle.entry.specs.When.{Some, UnequalOrShort, OverSize, BadObservation, BadSettings, EntryFails}
+use Rattle.calibrate.specs.When.{FacelessPass, OnEdge, turn}
+use Rattle.judge.specs.When.{OutOfDomain, RmseAboveMax, rmseAt}
+use Rattle.entry.specs.When as entry
+use Rattle.entry.proofs.Conditions as test
+use Rattle.entry.proofs.Conditions.{off}
+use Rattle.calibrate.proofs.Conditions as late
 
 -- ---- the order
 
@@ -87,14 +92,14 @@ module _ (tau : Float) (c : FitConfig) (ks ws ts : List Float) (room slots : ℕ
   entry-own : (n : ℕ) → EntryFails tau c ks ws ts room slots n → Own n
   entry-own n =
       elim [
-        | when.lengths e p ↦ subst Own (sym e) p
-        | when.sizes e p ↦ subst Own (sym e) p
-        | when.observation e p ↦ subst Own (sym e) p
-        | when.settings e p ↦ subst Own (sym e) p
-        | when.expiry e p ↦ subst Own (sym e) p
-        | when.too-few e p ↦ subst Own (sym e) p
-        | when.no-span e p ↦ subst Own (sym e) p
-        | when.weights e p ↦ subst Own (sym e) p
+        | entry.lengths e p ↦ subst Own (sym e) p
+        | entry.sizes e p ↦ subst Own (sym e) p
+        | entry.observation e p ↦ subst Own (sym e) p
+        | entry.settings e p ↦ subst Own (sym e) p
+        | entry.expiry e p ↦ subst Own (sym e) p
+        | entry.too-few e p ↦ subst Own (sym e) p
+        | entry.no-span e p ↦ subst Own (sym e) p
+        | entry.weights e p ↦ subst Own (sym e) p
       ]
 
   own : (n : ℕ) → Fails n → Own n
@@ -111,14 +116,14 @@ module _ (tau : Float) (c : FitConfig) (ks ws ts : List Float) (room slots : ℕ
   entry-ranged : (n : ℕ) → EntryFails tau c ks ws ts room slots n → (1 ≤ n) × (n ≤ 12)
   entry-ranged n =
       elim [
-        | when.lengths e p ↦ (omega arith, omega arith)
-        | when.sizes e p ↦ (omega arith, omega arith)
-        | when.observation e p ↦ (omega arith, omega arith)
-        | when.settings e p ↦ (omega arith, omega arith)
-        | when.expiry e p ↦ (omega arith, omega arith)
-        | when.too-few e p ↦ (omega arith, omega arith)
-        | when.no-span e p ↦ (omega arith, omega arith)
-        | when.weights e p ↦ (omega arith, omega arith)
+        | entry.lengths e p ↦ (omega arith, omega arith)
+        | entry.sizes e p ↦ (omega arith, omega arith)
+        | entry.observation e p ↦ (omega arith, omega arith)
+        | entry.settings e p ↦ (omega arith, omega arith)
+        | entry.expiry e p ↦ (omega arith, omega arith)
+        | entry.too-few e p ↦ (omega arith, omega arith)
+        | entry.no-span e p ↦ (omega arith, omega arith)
+        | entry.weights e p ↦ (omega arith, omega arith)
       ]
 
   ranged : (n : ℕ) → Fails n → (1 ≤ n) × (n ≤ 12)
@@ -162,18 +167,18 @@ module _ (tau : Float) (c : FitConfig) (ks ws ts : List Float) (room slots : ℕ
       cond-test (Told 7) (settingsHold c)
       (λ e. let c4 = next 3 (test.settings-refute c e) c3 in
       cond-test (Told 7) (positive tau)
-      (λ e. let c5 = next 4 (λ h. test.off h e) c4 in
+      (λ e. let c5 = next 4 (λ h. off h e) c4 in
       cond-test (Told 7) (leb (c .«min_observations») (length ks))
       (λ e. let c6 = next 5 (λ h. let l = leb-true (c .«min_observations») (length ks) e in omega arith) c5 in
       cond-test (Told 7) (positive (spanOf ks))
-      (λ e. inl (refl, next 6 (λ h. test.off h e) c6))
-      (λ h. inr (when.at-entry (when.no-span refl h), c6)))
-      (λ h. inr (when.at-entry (when.too-few refl (leb-false _ _ h)), c5)))
-      (λ h. inr (when.at-entry (when.expiry refl h), c4)))
-      (λ h. inr (when.at-entry (when.settings refl (test.settings-fail c h)), c3)))
-      (λ h. inr (when.at-entry (when.observation refl (test.observations-fail ks ws ts h)), c2)))
-      (λ h. inr (when.at-entry (when.sizes refl (test.sizes-fail (length ks) c h)), c1)))
-      (λ h. inr (when.at-entry (when.lengths refl (test.lengths-fail ks ws ts room slots h)), none-yet))
+      (λ e. inl (refl, next 6 (λ h. off h e) c6))
+      (λ h. inr (when.at-entry (entry.no-span refl h), c6)))
+      (λ h. inr (when.at-entry (entry.too-few refl (leb-false _ _ h)), c5)))
+      (λ h. inr (when.at-entry (entry.expiry refl h), c4)))
+      (λ h. inr (when.at-entry (entry.settings refl (test.settings-fail c h)), c3)))
+      (λ h. inr (when.at-entry (entry.observation refl (test.observations-fail ks ws ts h)), c2)))
+      (λ h. inr (when.at-entry (entry.sizes refl (test.sizes-fail (length ks) c h)), c1)))
+      (λ h. inr (when.at-entry (entry.lengths refl (test.lengths-fail ks ws ts room slots h)), none-yet))
 
   -- a number that is handed on, and what is asked after it
   joined : (j k m rest : ℕ) → Told j m → (Clear j → Told k rest) → Told k (unless (eqb m 0) m rest)
@@ -190,14 +195,14 @@ module _ (tau : Float) (c : FitConfig) (ks ws ts : List Float) (room slots : ℕ
       (λ c7.
       cond-test (Told 8) (allGood scaled)
       (λ e. inl (refl, next 7 (test.weights-refute (c .«max_weight_ratio») ts e) c7))
-      (λ h. inr (when.at-entry (when.weights refl (test.weights-fail (c .«max_weight_ratio») ts h)), c7)))
+      (λ h. inr (when.at-entry (entry.weights refl (test.weights-fail (c .«max_weight_ratio») ts h)), c7)))
 
   settings-hold : Clear 8 → settingsHold c ≡ true
   settings-hold all = go (settingsHold c) refl
     where
       go : (t : Bool) → settingsHold c ≡ t → settingsHold c ≡ true
       go true e = e
-      go false e = absurd (all 1 (omega arith) (when.at-entry (when.settings refl (test.settings-fail c e))))
+      go false e = absurd (all 1 (omega arith) (when.at-entry (entry.settings refl (test.settings-fail c e))))
 
   late-told : Clear 8 → Told 12 (lateNumber tau c ks ws scaled)
   unfolding lateNumber
@@ -205,19 +210,19 @@ module _ (tau : Float) (c : FitConfig) (ks ws ts : List Float) (room slots : ℕ
       let high = highestOf ws (c .«a_min») in
       let o = fitSearch c ks ws scaled .found .cell .objective in
       cond-test (Told 12) (fitSearch c ks ws scaled .refused)
-      (λ h. inr (when.no-face refl (test.search-fails c ks ws scaled h), c8))
-      (λ e. let c9 = next 8 (test.search-refutes c ks ws scaled e) c8 in
+      (λ h. inr (when.no-face refl (late.search-fails c ks ws scaled h), c8))
+      (λ e. let c9 = next 8 (late.search-refutes c ks ws scaled e) c8 in
       cond-test (Told 12) (fitSearch c ks ws scaled .found .«on_edge»)
       (λ h. inr (when.on-edge refl h, c9))
-      (λ e. let c10 = next 9 (λ h. test.off e h) c9 in
+      (λ e. let c10 = next 9 (λ h. off e h) c9 in
       cond-test (Told 12) (eqb (numberOf tried) 0)
       (λ x. cond-test (Told 12) (paramsHold c high o (sumsOf tried ks ws scaled))
-      (λ y. let c11 = next 10 (test.domain-refutes c tried ks ws scaled high o x y) c10 in
+      (λ y. let c11 = next 10 (late.domain-refutes c tried ks ws scaled high o x y) c10 in
       cond-test (Told 12) (rmseHolds c (rmseAt tried ks ws scaled))
-      (λ e. inl (refl, next 11 (test.rmse-refutes c tried ks ws scaled e) c11))
-      (λ h. inr (when.rmse-high refl (test.rmse-fails c tried ks ws scaled (settings-hold c8) h), c11)))
-      (λ h. inr (when.out-of-domain refl (test.params-fail c tried ks ws scaled high o h), c10)))
-      (λ h. inr (when.out-of-domain refl (test.slice-fails c tried ks ws scaled high o h), c10))))
+      (λ e. inl (refl, next 11 (late.rmse-refutes c tried ks ws scaled e) c11))
+      (λ h. inr (when.rmse-high refl (late.rmse-fails c tried ks ws scaled (settings-hold c8) h), c11)))
+      (λ h. inr (when.out-of-domain refl (late.params-fail c tried ks ws scaled high o h), c10)))
+      (λ h. inr (when.out-of-domain refl (late.slice-fails c tried ks ws scaled high o h), c10))))
 
   told : Told 12 number
   told = subst (Told 12) (sym (answer-number tau c ks ws ts room slots)) (joined 8 12 (entryNumber tau c ks ws ts room slots) (lateNumber tau c ks ws scaled) entry-told late-told)
@@ -263,29 +268,29 @@ module _ (tau : Float) (c : FitConfig) (ks ws ts : List Float) (room slots : ℕ
 
   pub when-12 : (number ≡ 12) ↔ UnequalOrShort ks ws ts room slots
   when-12 =
-      let w = exactly 12 (λ z. omega arith) (λ p. when.at-entry (when.lengths refl p)) (own 12) in
+      let w = exactly 12 (λ z. omega arith) (λ p. when.at-entry (entry.lengths refl p)) (own 12) in
       (λ e. w .0 e .0, λ p. w .1 (p, none-yet))
 
   pub when-11 : (number ≡ 11) ↔ (OverSize (length ks) c × NoneBefore 11)
-  when-11 = exactly 11 (λ z. omega arith) (λ p. when.at-entry (when.sizes refl p)) (own 11)
+  when-11 = exactly 11 (λ z. omega arith) (λ p. when.at-entry (entry.sizes refl p)) (own 11)
 
   pub when-10 : (number ≡ 10) ↔ (Some (length ks) (λ i. BadObservation (at ks i) (at ws i) (at ts i)) × NoneBefore 10)
-  when-10 = exactly 10 (λ z. omega arith) (λ p. when.at-entry (when.observation refl p)) (own 10)
+  when-10 = exactly 10 (λ z. omega arith) (λ p. when.at-entry (entry.observation refl p)) (own 10)
 
   pub when-1 : (number ≡ 1) ↔ (BadSettings c × NoneBefore 1)
-  when-1 = exactly 1 (λ z. omega arith) (λ p. when.at-entry (when.settings refl p)) (own 1)
+  when-1 = exactly 1 (λ z. omega arith) (λ p. when.at-entry (entry.settings refl p)) (own 1)
 
   pub when-2 : (number ≡ 2) ↔ ((positive tau ≡ false) × NoneBefore 2)
-  when-2 = exactly 2 (λ z. omega arith) (λ p. when.at-entry (when.expiry refl p)) (own 2)
+  when-2 = exactly 2 (λ z. omega arith) (λ p. when.at-entry (entry.expiry refl p)) (own 2)
 
   pub when-3 : (number ≡ 3) ↔ ((length ks < c .«min_observations») × NoneBefore 3)
-  when-3 = exactly 3 (λ z. omega arith) (λ p. when.at-entry (when.too-few refl p)) (own 3)
+  when-3 = exactly 3 (λ z. omega arith) (λ p. when.at-entry (entry.too-few refl p)) (own 3)
 
   pub when-4 : (number ≡ 4) ↔ ((positive (spanOf ks) ≡ false) × NoneBefore 4)
-  when-4 = exactly 4 (λ z. omega arith) (λ p. when.at-entry (when.no-span refl p)) (own 4)
+  when-4 = exactly 4 (λ z. omega arith) (λ p. when.at-entry (entry.no-span refl p)) (own 4)
 
   pub when-5 : (number ≡ 5) ↔ (Some (length ts) (λ i. positive (at scaled i) ≡ false) × NoneBefore 5)
-  when-5 = exactly 5 (λ z. omega arith) (λ p. when.at-entry (when.weights refl p)) (own 5)
+  when-5 = exactly 5 (λ z. omega arith) (λ p. when.at-entry (entry.weights refl p)) (own 5)
 
   pub when-6 : (number ≡ 6) ↔ (FacelessPass c ks ws scaled × NoneBefore 6)
   when-6 = exactly 6 (λ z. omega arith) (when.no-face refl) (own 6)

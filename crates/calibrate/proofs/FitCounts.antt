@@ -7,19 +7,19 @@ use native.Mathlib.Omega.{arith}
 use lib.Dec.{eqb}
 use lib.Ieee.{Float}
 use borrow.Author.Tests.{eqb-true, eqb-false}
-use Rattle.search.specs.declared.Counts.{Counts}
+use Rattle.records.specs.declared.Counts.{Counts}
 use Rattle.search.specs.Search.{limitOf}
 use Rattle.search.specs.Run.{fitCell}
 use Rattle.search.proofs.SearchCounts.{most-faces, roomy}
 use Rattle.search.proofs.FitCells.{fit-most}
-use Rattle.calibrate.specs.declared.FitConfig.{FitConfig}
-use Rattle.calibrate.specs.declared.FitAnswer.{FitAnswer}
-use Rattle.calibrate.specs.Settings.{defaultsOf}
-use Rattle.calibrate.specs.Entry.{entryNumber}
-use Rattle.calibrate.specs.End.{noCounts, refusedWith}
+use Rattle.records.specs.declared.FitConfig.{FitConfig}
+use Rattle.records.specs.declared.FitAnswer.{FitAnswer}
+use Rattle.records.specs.Settings.{defaultsOf}
+use Rattle.entry.specs.Entry.{entryNumber}
+use Rattle.records.specs.Answer.{noCounts, refusedWith}
 use Rattle.calibrate.specs.Fit.{planOf, fitSearch, fitOf}
 use Rattle.calibrate.specs.Searched.{scaledFor, limitsFor, planFor, searchFor, SizedCounts, DefaultCounts}
-use Rattle.calibrate.proofs.Known.{passed, entered}
+use Rattle.entry.proofs.Known.{passed, entered}
 use Rattle.calibrate.proofs.EachNumber.{early-answer}
 use Rattle.calibrate.proofs.SearchedAsDefined.{searched-as-defined}
 

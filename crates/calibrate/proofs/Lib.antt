@@ -1,4 +1,3 @@
-pub mod Known
 pub mod Deciding
 pub mod Quads
 pub mod Listing
@@ -11,4 +10,3 @@ pub mod Contract
 pub mod EachNumber
 pub mod SearchedAsDefined
 pub mod FitCounts
-pub mod WeightsOfTheFit

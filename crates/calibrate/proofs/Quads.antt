@@ -7,12 +7,11 @@ use lib.ListN.{length, drop, set, length-set, length-append}
 use lib.Ieee.{Float, nan}
 use Rattle.laws.specs.Loop.{turns, for}
 use Rattle.laws.specs.Floats.{at}
-use Rattle.laws.proofs.Loops.{for-ind}
+use Rattle.laws.proofs.Loops.{for-ind, for-next}
 use Rattle.laws.proofs.Rooms.{put-next}
 use Rattle.slice.specs.declared.SviSlice.{SviSlice}
-use Rattle.laws.proofs.Loops.{for-next}
-use Rattle.calibrate.specs.declared.Residual.{Residual}
-use Rattle.calibrate.specs.End.{residualAt}
+use Rattle.judge.specs.declared.Residual.{Residual}
+use Rattle.judge.specs.Judge.{residualAt}
 use Rattle.calibrate.specs.Fit.{residualsOf}
 
 regroup : (p : List Float) (a b c d : Float) → (((p ++ (a ∷ [])) ++ (b ∷ [])) ++ (c ∷ [])) ++ (d ∷ []) ≡ p ++ (a ∷ b ∷ c ∷ d ∷ [])

@@ -16,13 +16,13 @@ use Rattle.laws.proofs.Loops.{for-ind}
 use Rattle.laws.proofs.Order.{lt-le-trans, lt→le, le-self, le-trans}
 use Rattle.slice.specs.declared.KRange.{KRange}
 use Rattle.slice.specs.Slice.{rangeNumber}
-use Rattle.calibrate.specs.declared.FitConfig.{FitConfig}
-use Rattle.calibrate.specs.Entry.{rangeOf, entryNumber}
+use Rattle.records.specs.declared.FitConfig.{FitConfig}
+use Rattle.entry.specs.Entry.{rangeOf, entryNumber}
 use Rattle.calibrate.specs.End.{sliceOf}
 use Rattle.calibrate.specs.When.{tried}
-use Rattle.calibrate.proofs.Known.{passed, entered}
-use Rattle.calibrate.proofs.Conditions.{is-T, observations-pass}
-use Rattle.calibrate.proofs.WeightsOfTheFit.{all-pass}
+use Rattle.entry.proofs.Known.{passed, entered}
+use Rattle.entry.proofs.Conditions.{is-T, observations-pass}
+use Rattle.entry.proofs.WeightsOfTheFit.{all-pass}
 
 record Good (t : KRange) : Type 0 where
   lo : finite (t .lo) ≡ true

@@ -11,15 +11,18 @@ use borrow.Author.Tests.{eqb-true, eqb-false}
 use Rattle.laws.specs.Floats.{+0, finite, positive}
 use Rattle.laws.proofs.Choices.{both, cond-ind, cond-test}
 use Rattle.slice.specs.Slice.{numberOf}
-use Rattle.search.specs.declared.Counts.{Counts}
+use Rattle.records.specs.declared.Counts.{Counts}
 use Rattle.weights.specs.Weights.{scaledOf, allGood, cappedOf}
-use Rattle.calibrate.specs.declared.FitConfig.{FitConfig}
-use Rattle.calibrate.specs.declared.FitAnswer.{FitAnswer}
-use Rattle.calibrate.specs.Settings.{settingsHold}
-use Rattle.calibrate.specs.Entry.{lengthsHold, sizesHold, allPass, spanOf, checksNumber, entryNumber}
-use Rattle.calibrate.specs.End.{noCounts, refusedWith, sumsOf, highestOf, paramsHold, rmseHolds, acceptedOf, endOf}
+use Rattle.records.specs.declared.FitConfig.{FitConfig}
+use Rattle.records.specs.declared.FitAnswer.{FitAnswer}
+use Rattle.records.specs.Settings.{settingsHold, sizesHold}
+use Rattle.entry.specs.Entry.{lengthsHold, allPass, spanOf, checksNumber, entryNumber}
+use Rattle.records.specs.Answer.{noCounts, refusedWith}
+use Rattle.judge.specs.Judge.{sumsOf, highestOf, paramsHold, rmseHolds}
+use Rattle.calibrate.specs.End.{acceptedOf, endOf}
 use Rattle.calibrate.specs.Fit.{fitSearch, bestEnd, searchEnd, decidedOf, refusedEarly, cappedAs, fitOf}
-use Rattle.calibrate.specs.When.{fitted, rmseAt, refusalOf}
+use Rattle.calibrate.specs.When.{fitted, refusalOf}
+use Rattle.judge.specs.When.{rmseAt}
 
 module _ (tau : Float) (c : FitConfig) (ks ws ts : List Float) (room slots : ℕ) where
   abbrev pub answer : FitAnswer

@@ -4,8 +4,8 @@ use mathlib.Core.List.{List}
 use Prim.Native.Nat.{ℕ}
 use lib.Ieee.{Float}
 use Rattle.laws.proofs.Rooms.{kept}
-use Rattle.calibrate.specs.declared.FitConfig.{FitConfig}
-use Rattle.calibrate.specs.declared.FitAnswer.{FitAnswer}
+use Rattle.records.specs.declared.FitConfig.{FitConfig}
+use Rattle.records.specs.declared.FitAnswer.{FitAnswer}
 use Rattle.calibrate.specs.Fit.{Fitted}
 
 pub refusal-keeps-buffers :

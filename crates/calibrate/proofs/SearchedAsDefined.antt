@@ -7,25 +7,37 @@ use native.Mathlib.Omega.{arith}
 use lib.Dec.{eqb}
 use lib.ListN.{length}
 use lib.Ieee.{Float}
+use borrow.Author.Tests.{eq-eqb, le-leb}
 use Rattle.laws.specs.Floats.{+0}
 use Rattle.laws.proofs.Choices.{cond-ind, cond-test, false-true}
 use Rattle.exponent.specs.Exp.{expOf}
 use Rattle.slice.specs.declared.SviSlice.{SviSlice}
 use Rattle.slice.specs.Slice.{numberOf}
+use Rattle.cell.specs.Cell.{inRange}
 use Rattle.search.specs.declared.Search.{Search}
 use Rattle.search.specs.Promised.{Promised}
 use Rattle.search.specs.Run.{fitCell, fitFace}
 use Rattle.search.proofs.FitCells.{fit-chosen}
 use Rattle.search.proofs.NoBetterFace.{no-better-face}
-use Rattle.weights.specs.Weights.{cappedOf}
-use Rattle.calibrate.specs.declared.FitConfig.{FitConfig}
-use Rattle.calibrate.specs.declared.FitAnswer.{FitAnswer}
-use Rattle.calibrate.specs.declared.Sums.{Sums}
-use Rattle.calibrate.specs.Entry.{rangeOf, entryNumber}
-use Rattle.calibrate.specs.End.{refusedWith, marksAt, sliceOf, sumsOf, paramsHold, rmseOf, rmseHolds, acceptedOf, endOf}
+use Rattle.weights.specs.Weights.{scaledOf, cappedOf}
+use Rattle.weights.proofs.Places.{scaled-length}
+use Rattle.records.specs.declared.FitConfig.{FitConfig}
+use Rattle.records.specs.declared.FitAnswer.{FitAnswer}
+use Rattle.judge.specs.declared.Sums.{Sums}
+use Rattle.entry.specs.Sized.{Sized}
+use Rattle.entry.specs.Entry.{rangeOf, entryNumber}
+use Rattle.records.specs.Answer.{refusedWith}
+use Rattle.calibrate.specs.End.{marksAt, sliceOf, acceptedOf, endOf}
+use Rattle.judge.specs.Judge.{sumsOf, paramsHold, rmseOf, rmseHolds}
 use Rattle.calibrate.specs.Fit.{fitSearch, bestEnd, searchEnd, decidedOf, cappedAs, fitOf}
 use Rattle.calibrate.specs.Searched.{scaledFor, aMaxFor, limitsFor, planFor, searchFor, FromFound, Searched}
-use Rattle.calibrate.proofs.Known.{passed, entered, in-range}
+use Rattle.entry.proofs.Known.{passed, entered}
+
+-- the scaled weights are as many as the observations, in the range of a cell
+in-range : (c : FitConfig) (ks ws ts : List Float) → Sized c ks ws ts → inRange ks ws (scaledOf (c .«max_weight_ratio») ts) ≡ true
+in-range c ks ws ts s =
+    let r = c .«max_weight_ratio» in
+    rw (le-leb (length ks) 256 (s .most), eq-eqb (length ws) (length ks) (s .ws-long), eq-eqb (length (scaledOf r ts)) (length ks) (scaled-length r ts ∙ s .ts-long))
 
 module _ (tau : Float) (c : FitConfig) (ks ws ts : List Float) where
   abbrev s : Search

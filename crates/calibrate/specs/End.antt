@@ -1,54 +1,23 @@
 -- The end of the fit, from the best cell of the search to the answer. Every operation is rounded once, in the order written. Definitions only.
-use mathlib.Core.Bool.{Bool, true, false, _&&_, _||_, cond}
+use mathlib.Core.Bool.{Bool, false, _||_, cond}
 use mathlib.Core.List.{List}
 use Prim.Native.Nat.{ℕ}
 use lib.Dec.{eqb}
-use lib.ListN.{length, getD, set, replicate}
+use lib.ListN.{length, getD, set}
 use lib.Ieee.{Float, lt, le, neg}
 use Rattle.laws.specs.Loop.{for}
 use Rattle.laws.specs.Choice.{unless}
-use Rattle.laws.specs.Floats.{_+f_, _-f_, _*f_, _/f_, f64, num, +0, one, at, absOf, finite, maxOf}
-use Rattle.roots.specs.Root.{rootOf}
+use Rattle.laws.specs.Floats.{_+f_, _-f_, _*f_, _/f_, +0, one, at, absOf}
 use Rattle.slice.specs.declared.KRange.{KRange}
 use Rattle.slice.specs.declared.SviSlice.{SviSlice}
-use Rattle.slice.specs.declared.Evaluated.{Evaluated}
-use Rattle.slice.specs.declared.Evaluated.the-variants as evaluated
-use Rattle.slice.specs.Slice.{numberOf, evalRaw, leeOf, leeBound}
+use Rattle.slice.specs.Slice.{numberOf, leeOf, leeBound}
 use Rattle.cell.specs.declared.Cell.{Cell}
 use Rattle.polytope.specs.Polytope.{rowsOf, boundsOf, spreadOf, dotOf}
-use Rattle.search.specs.declared.Counts.{Counts}
-use Rattle.search.specs.Search as search
-use Rattle.calibrate.specs.declared.FitConfig.{FitConfig}
-use Rattle.calibrate.specs.declared.FitAnswer.{FitAnswer}
-use Rattle.calibrate.specs.declared.Reading.{Reading}
-use Rattle.calibrate.specs.declared.Residual.{Residual}
-use Rattle.calibrate.specs.declared.Sums.{Sums}
-
--- ---- refusals: zeros but for what is named
-
-abbrev pub noSlice : SviSlice
-noSlice = record { tau = +0; a = +0; b = +0; rho = +0; m = +0; sigma = +0; «k_range» = record { lo = +0; hi = +0 } }
-
-abbrev pub noCounts : Counts
-noCounts = search.noCounts
-
-unfoldable pub refusedWith : ℕ → ℕ → ℕ → Float → Float → Counts → FitAnswer
-refusedWith number observed required rmse most counts =
-    record {
-      number = number;
-      observed = observed;
-      required = required;
-      «rmse_vol» = rmse;
-      «max_rmse_vol» = most;
-      slice = noSlice;
-      objective = +0;
-      «objective_params» = +0;
-      «lee_margin» = +0;
-      «a_margin» = +0;
-      active = replicate 7 false;
-      counts = counts;
-      capped = 0;
-    }
+use Rattle.judge.specs.Judge.{sumsOf, paramsHold, rmseOf, rmseHolds}
+use Rattle.records.specs.declared.Counts.{Counts}
+use Rattle.records.specs.declared.FitConfig.{FitConfig}
+use Rattle.records.specs.declared.FitAnswer.{FitAnswer}
+use Rattle.records.specs.Answer.{refusedWith}
 
 -- ---- the active set: the face's constraints, and any other at its bound within the tolerance
 
@@ -94,53 +63,6 @@ sliceOf tau range active x m sigma «a_min» «a_max» =
       sigma = sigma;
       «k_range» = range;
     }
-
--- ---- the residuals
-
--- whether the slice evaluates, and the fitted w
-abbrev pub readingOf : Evaluated → Reading
-readingOf (evaluated.At v) = record { ok = true; w = v .w }
-readingOf (evaluated.Refused n) = record { ok = false; w = +0 }
-
-abbrev pub volOf : Float → Float → Float
-volOf tau w = rootOf (w /f tau)
-
--- at one observation: whether the slice evaluates, the fitted w, and the observed minus the fitted volatility
-unfoldable pub residualAt : SviSlice → Float → Float → Residual
-residualAt s k w =
-    let e = readingOf (evalRaw s k) in
-    record { ok = e .ok; fitted = e .w; vol = volOf (s .tau) w -f volOf (s .tau) (e .w) }
-
--- sum_sq, objective_params and total_weight, one observation further
-unfoldable pub addedTo : Sums → Residual → Float → Float → Sums
-addedTo t r w weight =
-    record {
-      ok = t .ok && r .ok;
-      squares = t .squares +f r .vol *f r .vol;
-      params = t .params +f weight *f (r .fitted -f w) *f (r .fitted -f w);
-      weight = t .weight +f weight;
-    }
-
-unfoldable pub sumsOf : SviSlice → List Float → List Float → List Float → Sums
-sumsOf s ks ws ts =
-    for 0 (length ks) (λ i t. addedTo t (residualAt s (at ks i) (at ws i)) (at ws i) (at ts i))
-    (record { ok = true; squares = +0; params = +0; weight = +0 })
-
--- a_max: the largest observed w, or a_min if that is larger
-unfoldable pub highestOf : List Float → Float → Float
-highestOf ws «a_min» = for 0 (length ws) (λ i t. maxOf t (at ws i)) «a_min»
-
--- every observation evaluates, and objective_params is finite and within 1e-9 objective + tolerance total_weight a_max a_max of the objective
-unfoldable pub paramsHold : FitConfig → Float → Float → Sums → Bool
-paramsHold c «a_max» objective t =
-    t .ok && finite (t .params)
-    && le (t .params) (objective +f (f64 0x3e11_2e0b_e826_d695 *f objective +f c .«feasibility_tolerance» *f t .weight *f «a_max» *f «a_max»))
-
-unfoldable pub rmseOf : Sums → ℕ → Float
-rmseOf t n = rootOf (t .squares /f num n)
-
-unfoldable pub rmseHolds : FitConfig → Float → Bool
-rmseHolds c rmse = finite rmse && le rmse (c .«max_rmse_vol»)
 
 -- ---- the answer, from the best cell and where it stands
 

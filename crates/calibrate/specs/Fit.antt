@@ -18,15 +18,17 @@ use Rattle.cell.specs.declared.Limits.{Limits}
 use Rattle.weights.specs.Weights.{scaledOf, cappedOf}
 use Rattle.search.specs.declared.Axis.{Axis}
 use Rattle.search.specs.declared.Plan.{Plan}
-use Rattle.search.specs.declared.Counts.{Counts}
+use Rattle.records.specs.declared.Counts.{Counts}
 use Rattle.search.specs.declared.Found.{Found}
 use Rattle.search.specs.declared.Search.{Search}
 use Rattle.search.specs.Search.{searchOf}
 use Rattle.search.specs.Run.{fitCell}
-use Rattle.calibrate.specs.declared.FitConfig.{FitConfig}
-use Rattle.calibrate.specs.declared.FitAnswer.{FitAnswer}
-use Rattle.calibrate.specs.Entry.{rangeOf, entryNumber}
-use Rattle.calibrate.specs.End.{noCounts, refusedWith, marksAt, sliceOf, residualAt, highestOf, endOf}
+use Rattle.records.specs.declared.FitConfig.{FitConfig}
+use Rattle.records.specs.declared.FitAnswer.{FitAnswer}
+use Rattle.entry.specs.Entry.{rangeOf, entryNumber}
+use Rattle.records.specs.Answer.{noCounts, refusedWith}
+use Rattle.calibrate.specs.End.{marksAt, sliceOf, endOf}
+use Rattle.judge.specs.Judge.{residualAt, highestOf}
 
 -- ---- the search: m from k_min - R to k_max + R, ln sigma from ln (sigma_lo R) to ln (sigma_hi R), R = k_max - k_min
 

@@ -1,7 +1,4 @@
-pub mod Settings
-pub mod Entry
 pub mod End
 pub mod When
 pub mod Fit
 pub mod Searched
-pub mod Sized

@@ -8,14 +8,15 @@ use Rattle.exponent.specs.Exp.{expOf}
 use Rattle.cell.specs.declared.Limits.{Limits}
 use Rattle.weights.specs.Weights.{scaledOf}
 use Rattle.search.specs.declared.Plan.{Plan}
-use Rattle.search.specs.declared.Counts.{Counts}
+use Rattle.records.specs.declared.Counts.{Counts}
 use Rattle.search.specs.declared.Search.{Search}
 use Rattle.search.specs.Promised.{Promised}
 use Rattle.search.specs.Run.{fitCell, fitFace}
-use Rattle.calibrate.specs.declared.FitConfig.{FitConfig}
-use Rattle.calibrate.specs.declared.FitAnswer.{FitAnswer}
-use Rattle.calibrate.specs.Entry.{rangeOf}
-use Rattle.calibrate.specs.End.{marksAt, sliceOf, highestOf}
+use Rattle.records.specs.declared.FitConfig.{FitConfig}
+use Rattle.records.specs.declared.FitAnswer.{FitAnswer}
+use Rattle.entry.specs.Entry.{rangeOf}
+use Rattle.calibrate.specs.End.{marksAt, sliceOf}
+use Rattle.judge.specs.Judge.{highestOf}
 use Rattle.calibrate.specs.Fit.{planOf, limitsOf, fitSearch}
 
 -- ---- the words, for a fit of observations (k, w, weight) in ks, ws, ts with the settings c

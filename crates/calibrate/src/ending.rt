@@ -1,19 +1,15 @@
-// The end of the fit: the residuals' sums, and the answer.
+// The end of the fit: the best cell's slice judged, and the answer.
 ghost use mathlib.Core.Path.{_≡_};
 ghost use lib.ListN.{length};
-ghost use Rattle.slice.specs.Slice.{evalRaw};
-ghost use Rattle.calibrate.specs.End.{refusedWith, readingOf, residualAt, addedTo, sumsOf, rmseOf, paramsHold, acceptedOf, rmseHolds, endOf};
+ghost use Rattle.records.specs.Answer.{refusedWith};
+ghost use Rattle.calibrate.specs.End.{acceptedOf, endOf};
 ghost use Rattle.calibrate.specs.Fit.{bestEnd, searchEnd};
-use crate::FitAnswer;
-use crate::FitConfig;
-use crate::Reading;
-use crate::Residual;
-use crate::Sums;
 use crate::params;
-use search::Counts;
+use records::Counts;
+use records::FitAnswer;
+use records::FitConfig;
 use search::Found;
 use search::Search;
-use slice::Evaluated;
 use slice::KRange;
 use slice::SviSlice;
 
@@ -51,76 +47,6 @@ pub(crate) fn refusal(
         counts,
         capped: 0,
     }
-}
-
-// ---- the residuals
-
-fn reading_at(s: SviSlice, k: f64) -> Reading
-    ensures { λ r. ⌜ r ≡ readingOf (evalRaw s k) ⌝ }
-{
-    let e = slice::eval_tested(s, k);
-    match e {
-        Evaluated::At(v) => Reading { ok: true, w: v.w },
-        Evaluated::Refused(_) => Reading { ok: false, w: 0.0 },
-    }
-}
-
-pub(crate) fn residual_at(s: SviSlice, k: f64, w: f64) -> Residual
-    ensures { λ r. ⌜ r ≡ residualAt s k w ⌝ }
-{
-    let e = reading_at(s, k);
-    Residual {
-        ok: e.ok,
-        fitted: e.w,
-        vol: roots::sqrt(w / s.tau) - roots::sqrt(e.w / s.tau),
-    }
-}
-
-fn added(t: Sums, r: Residual, w: f64, weight: f64) -> Sums
-    ensures { λ z. ⌜ z ≡ addedTo t r w weight ⌝ }
-{
-    let d = r.fitted - w;
-    Sums {
-        ok: t.ok & r.ok,
-        squares: t.squares + r.vol * r.vol,
-        params: t.params + weight * d * d,
-        weight: t.weight + weight,
-    }
-}
-
-fn sums_of(s: SviSlice, k: &[f64], w: &[f64], ts: &[f64]) -> Sums
-    requires { ⌜ (length (now w) ≡ length (now k)) × (length (now ts) ≡ length (now k)) ⌝ }
-    ensures { λ r. ⌜ r ≡ sumsOf s (now (k .entry)) (now (w .entry)) (now (ts .entry)) ⌝ }
-{
-    let mut t = Sums {
-        ok: true,
-        squares: 0.0,
-        params: 0.0,
-        weight: 0.0,
-    };
-    for i in 0..k.len() {
-        t = added(t, residual_at(s, k[i], w[i]), w[i], ts[i]);
-    }
-    t
-}
-
-fn params_hold(config: FitConfig, a_max: f64, objective: f64, t: Sums) -> bool
-    ensures { λ r. ⌜ r ≡ paramsHold config «a_max» objective t ⌝ }
-{
-    let allowed = 1e-9 * objective + config.feasibility_tolerance * t.weight * a_max * a_max;
-    t.ok & bits::is_finite(t.params) & (t.params <= objective + allowed)
-}
-
-fn rmse_of(t: Sums, n: usize) -> f64
-    ensures { λ r. ⌜ r ≡ rmseOf t n ⌝ }
-{
-    roots::sqrt(t.squares / std::num::nearest_u64_to_f64(n as u64))
-}
-
-fn rmse_holds(config: FitConfig, rmse: f64) -> bool
-    ensures { λ r. ⌜ r ≡ rmseHolds config rmse ⌝ }
-{
-    bits::is_finite(rmse) & (rmse <= config.max_rmse_vol)
 }
 
 // ---- the answer
@@ -173,13 +99,13 @@ fn end(
     if bad != 0 {
         return refusal(8, 0, 0, 0.0, 0.0, counts);
     }
-    let t = sums_of(s, k, w, ts);
-    let near = params_hold(config, a_max, objective, t);
+    let t = judge::sums_of(s, k, w, ts);
+    let near = judge::params_hold(config, a_max, objective, t);
     if !near {
         return refusal(8, 0, 0, 0.0, 0.0, counts);
     }
-    let rmse = rmse_of(t, k.len());
-    let small = rmse_holds(config, rmse);
+    let rmse = judge::rmse_of(t, k.len());
+    let small = judge::rmse_holds(config, rmse);
     if !small {
         return refusal(9, 0, 0, rmse, config.max_rmse_vol, counts);
     }

@@ -1,158 +1,19 @@
-// Calibration of one slice: settings, entry checks, the search, the end of the fit, and the two lent buffers.
+// Calibration of one slice: the entry checks, the plan of the search, the search, the end of the fit, and the two lent buffers.
 mod ending;
-mod entry;
 mod params;
 mod writing;
 
 ghost use mathlib.Core.Path.{_≡_};
-ghost use Rattle.laws.specs.Floats.{positive};
-ghost use Rattle.calibrate.specs.Settings.{defaultsOf, settingsHold};
-ghost use Rattle.calibrate.specs.Entry.{passes as passesOf, observedOf};
 ghost use Rattle.calibrate.specs.Fit.{halfOf, planOf, limitsOf, decidedOf, refusedEarly, cappedAs, Fitted};
-ghost use Rattle.calibrate.specs.Sized.{Sized};
+ghost use Rattle.entry.specs.Sized.{Sized};
 use cell::Limits;
+use records::Counts;
+use records::FitAnswer;
+use records::FitConfig;
 use search::Axis;
-use search::Counts;
 use search::Plan;
 use search::Window;
 use slice::KRange;
-use slice::SviSlice;
-
-// Settings of the slice fit.
-#[repr(C)]
-pub struct FitConfig {
-    pub grid: usize,
-    pub refinements: usize,
-    pub max_recentres: usize,
-    pub sigma_lo: f64,
-    pub sigma_hi: f64,
-    pub a_min: f64,
-    pub min_observations: usize,
-    pub max_rmse_vol: f64,
-    pub pivot_tolerance: f64,
-    pub feasibility_tolerance: f64,
-    pub max_weight_ratio: f64,
-}
-
-// One observed point of a slice.
-#[repr(C)]
-pub struct SliceObservation {
-    pub k: f64,
-    pub w: f64,
-    pub weight: f64,
-}
-
-pub enum Observed {
-    At(SliceObservation),
-    Refused(u32),
-}
-
-// What a fit hands back: a fitted slice and how it was found, or a refusal.
-#[repr(C)]
-pub struct FitAnswer {
-    // 0 for an accepted fit, else the refusal.
-    pub number: u32,
-    // The values of refusal 3.
-    pub observed: usize,
-    pub required: usize,
-    // Of an accepted fit; and, with the largest that is accepted, the values of refusal 9.
-    pub rmse_vol: f64,
-    pub max_rmse_vol: f64,
-    pub slice: SviSlice,
-    pub objective: f64,
-    pub objective_params: f64,
-    pub lee_margin: f64,
-    pub a_margin: f64,
-    // The constraints active at the fit, in their order.
-    pub active: [bool; 7],
-    pub counts: Counts,
-    // How many weights were capped.
-    pub capped: usize,
-}
-
-// Whether a slice evaluates, and the fitted w.
-pub struct Reading {
-    pub ok: bool,
-    pub w: f64,
-}
-
-// Of one observation: whether the slice evaluates there, the fitted w, and the observed minus the fitted volatility.
-pub struct Residual {
-    pub ok: bool,
-    pub fitted: f64,
-    pub vol: f64,
-}
-
-// Over the observations: whether the slice evaluates, the squares of the vol residuals, objective_params, the total weight.
-pub struct Sums {
-    pub ok: bool,
-    pub squares: f64,
-    pub params: f64,
-    pub weight: f64,
-}
-
-// Finite and above zero.
-fn is_positive(x: f64) -> bool
-    ensures { λ r. ⌜ r ≡ positive x ⌝ }
-{
-    bits::is_finite(x) & (0.0 < x)
-}
-
-// k finite, w finite and not negative, the weight finite and positive.
-pub fn passes(k: f64, w: f64, weight: f64) -> bool
-    ensures { λ r. ⌜ r ≡ passesOf k w weight ⌝ }
-{
-    bits::is_finite(k) & bits::is_finite(w) & (0.0 <= w) & is_positive(weight)
-}
-
-impl SliceObservation {
-    pub fn new(k: f64, w: f64, weight: f64) -> Observed
-        ensures { λ r. ⌜ r ≡ observedOf k w weight ⌝ }
-    {
-        let good = passes(k, w, weight);
-        if !good {
-            return Observed::Refused(10);
-        }
-        Observed::At(SliceObservation { k, w, weight })
-    }
-}
-
-impl FitConfig {
-    pub fn defaults() -> FitConfig
-        ensures { λ r. ⌜ r ≡ defaultsOf ⌝ }
-    {
-        FitConfig {
-            grid: 21,
-            refinements: 12,
-            max_recentres: 40,
-            sigma_lo: 0.005,
-            sigma_hi: 10.0,
-            a_min: 1e-8,
-            min_observations: 5,
-            max_rmse_vol: 0.02,
-            pivot_tolerance: 1e-12,
-            feasibility_tolerance: 1e-12,
-            max_weight_ratio: 10.0,
-        }
-    }
-
-    // Whether every setting is in its range.
-    pub fn validate(self) -> bool
-        ensures { λ r. ⌜ r ≡ settingsHold self ⌝ }
-    {
-        let ends = is_positive(self.sigma_lo) & is_positive(self.sigma_hi);
-        let fits = is_positive(self.a_min) & is_positive(self.max_rmse_vol);
-        let steps = is_positive(self.pivot_tolerance)
-            & is_positive(self.feasibility_tolerance)
-            & is_positive(self.max_weight_ratio);
-        (5 <= self.grid)
-            & (5 <= self.min_observations)
-            & ends
-            & fits
-            & steps
-            & (self.sigma_lo < self.sigma_hi)
-    }
-}
 
 // ---- the search
 
@@ -202,7 +63,7 @@ fn decided(tau: f64, config: FitConfig, k: &[f64], w: &[f64], ts: &[f64]) -> Fit
     ensures { λ r. ⌜ r ≡ decidedOf tau config (now (k .entry)) (now (w .entry)) (now (ts .entry)) ⌝ }
 {
     let range = entry::range_of(k);
-    let a_max = entry::highest(w, config.a_min);
+    let a_max = judge::highest(w, config.a_min);
     let plan = plan_of(config, range);
     let limits = limits_of(config, a_max);
     let s = search::run(k, w, ts, limits, plan);

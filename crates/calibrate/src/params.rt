@@ -1,8 +1,8 @@
 // The active set at the best cell, and the parameters: at an active bound from the constraint itself.
 ghost use mathlib.Core.Path.{_≡_};
 ghost use Rattle.calibrate.specs.End.{activeOf, marksAt, rhoOf, slopeOf, levelOf, sliceOf};
-use crate::FitConfig;
 use cell::Cell;
+use records::FitConfig;
 use slice::KRange;
 use slice::SviSlice;
 

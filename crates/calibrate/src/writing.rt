@@ -5,7 +5,6 @@ ghost use Prim.Native.Nat.{_*_, _≤_};
 ghost use lib.ListN.{length, drop};
 ghost use Rattle.weights.specs.Weights.{cappedAt};
 ghost use Rattle.calibrate.specs.Fit.{residualsOf};
-use crate::ending;
 use slice::SviSlice;
 
 // The residuals, four numbers an observation; the rest of the room is as it was.
@@ -14,7 +13,7 @@ pub(crate) fn write_residuals(s: SviSlice, k: &[f64], w: &[f64], out: &mut [f64]
     ensures { λ z. ⌜ now (out .exit) ≡ residualsOf s (now (k .entry)) (now (w .entry)) ++ drop (length (now (k .entry)) * 4) (now (out .entry)) ⌝ }
 {
     for i in 0..k.len() {
-        let r = ending::residual_at(s, k[i], w[i]);
+        let r = judge::residual_at(s, k[i], w[i]);
         let j = i * 4;
         out[j] = k[i];
         out[j + 1] = w[i];

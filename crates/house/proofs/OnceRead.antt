@@ -9,8 +9,8 @@ use lib.ListN.{length, getD}
 use borrow.Author.Tests.{le-leb}
 use Rattle.laws.specs.Floats.{f64}
 use Rattle.bits.specs.Bytes.{u64At}
-use Rattle.calibrate.specs.declared.FitConfig.{FitConfig}
-use Rattle.calibrate.specs.Entry.{sizesHold}
+use Rattle.records.specs.declared.FitConfig.{FitConfig}
+use Rattle.records.specs.Settings.{sizesHold}
 use Rattle.house.specs.declared.House.the-variants.{File}
 use Rattle.house.specs.declared.Quote.{Quote}
 use Rattle.house.specs.File.{houseOf, f64At, tauOf, settingsAt, configOf, quoteAt, quotes}

@@ -12,7 +12,7 @@ use Rattle.laws.specs.Choice.{unless}
 use Rattle.laws.specs.Room.{atFront, written}
 use Rattle.laws.proofs.Choices.{both, false-true, number-no, number-goes, passed-one}
 use Rattle.laws.proofs.Rooms.{wrote}
-use Rattle.calibrate.specs.Entry.{sizesHold}
+use Rattle.records.specs.Settings.{sizesHold}
 use Rattle.house.specs.declared.House.{House}
 use Rattle.house.specs.declared.House.the-variants.{Malformed, File}
 use Rattle.house.specs.declared.Quote.{Quote}

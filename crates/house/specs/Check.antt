@@ -3,7 +3,7 @@ use mathlib.Core.Bool.{Bool, true, _&&_}
 use mathlib.Core.List.{List, [], _∷_}
 use lib.Ieee.{Float}
 use Rattle.laws.specs.Floats.{f64}
-use Rattle.calibrate.specs.Entry.{passes}
+use Rattle.records.specs.Observation.{passes}
 use Rattle.house.specs.declared.Quote.{Quote}
 
 -- the bits of a record as floats

@@ -8,8 +8,8 @@ use lib.Ieee.{Float}
 use Rattle.laws.specs.Choice.{unless}
 use Rattle.laws.specs.Floats.{f64}
 use Rattle.bits.specs.Bytes.{u32At, u64At}
-use Rattle.calibrate.specs.declared.FitConfig.{FitConfig}
-use Rattle.calibrate.specs.Settings.{defaultsOf}
+use Rattle.records.specs.declared.FitConfig.{FitConfig}
+use Rattle.records.specs.Settings.{defaultsOf}
 use Rattle.house.specs.declared.House.{House}
 use Rattle.house.specs.declared.House.the-variants.{Malformed, File}
 use Rattle.house.specs.declared.Quote.{Quote}

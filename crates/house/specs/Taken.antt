@@ -5,7 +5,7 @@ use mathlib.Core.List.{List, []}
 use lib.ListN.{length}
 use lib.Dec.{eqb, leb}
 use Rattle.laws.specs.Choice.{unless}
-use Rattle.calibrate.specs.Entry.{sizesHold}
+use Rattle.records.specs.Settings.{sizesHold}
 use Rattle.house.specs.File.{houseOf, configOf, quotes}
 use Rattle.house.specs.Check.{allPass}
 use Rattle.house.specs.Repeats.{kept}

@@ -1,5 +1,5 @@
 // The house file. Nothing is copied out of its bytes but what is kept: counts and places say where each value stands. Every public function answers on every byte string.
-use calibrate::FitConfig;
+use records::FitConfig;
 ghost use mathlib.Core.Path.{_≡_};
 ghost use mathlib.Core.Bool.{_&&_};
 ghost use mathlib.Core.List.{map};
@@ -7,7 +7,6 @@ ghost use Prim.Native.Nat.{_+_, _*_, _≤_, _<_};
 ghost use lib.Dec.{leb};
 ghost use lib.ListN.{length};
 ghost use Rattle.laws.specs.Room.{atFront, written};
-ghost use Rattle.calibrate.specs.Entry.{sizesHold};
 ghost use Rattle.house.specs.File.{houseOf, f64At, tauOf, settingsAt, configOf, quoteAt, quotes};
 ghost use Rattle.house.specs.Check.{kOf, wOf, weightOf, quotePasses, allPass};
 ghost use Rattle.house.specs.Repeats.{sameQuote, among, kept};
@@ -105,15 +104,6 @@ pub fn config_of(s: &[u8], settings: usize) -> FitConfig
 
 // ---- the checks that come before repeats are dropped
 
-fn sizes_hold(n: usize, config: FitConfig) -> bool
-    ensures { λ r. ⌜ r ≡ sizesHold n config ⌝ }
-{
-    (n <= 256)
-        & (config.grid <= 255)
-        & (config.refinements <= 1000)
-        & (config.max_recentres <= 1000)
-}
-
 // The record that starts at a place.
 fn quote_at(s: &[u8], at: usize) -> Quote
     requires { ⌜ at ≤ length (now s) ⌝ }
@@ -130,7 +120,7 @@ fn quote_at(s: &[u8], at: usize) -> Quote
 fn quote_passes(q: Quote) -> bool
     ensures { λ r. ⌜ r ≡ quotePasses q ⌝ }
 {
-    calibrate::passes(bits::f64_of(q.k), bits::f64_of(q.w), bits::f64_of(q.weight))
+    records::passes(bits::f64_of(q.k), bits::f64_of(q.w), bits::f64_of(q.weight))
 }
 
 // Whether each of n records passes check 10.
@@ -217,7 +207,7 @@ fn refusal_of(s: &[u8], settings: usize, n: usize, a: usize, b: usize, c: usize)
     if !room {
         return 12;
     }
-    let sizes = sizes_hold(n, config_of(s, settings));
+    let sizes = records::sizes_hold(n, config_of(s, settings));
     if !sizes {
         return 11;
     }

@@ -24,7 +24,7 @@ use Rattle.surface.specs.declared.types.Region.{Region}
 use Rattle.surface.specs.declared.types.Region.the-variants as region
 use Rattle.surface.specs.declared.types.Covered.{Covered}
 use Rattle.surface.specs.declared.types.Covered.the-variants as covered
-use Rattle.surface.specs.Runs.{noSlice}
+use Rattle.slice.specs.Slice.{noSlice}
 use Rattle.surface.specs.Surface.{bracketRun, regionRun, totalRun, coversRun}
 use Rattle.diagnostics.specs.declared.report.DiagnosticsConfig.{DiagnosticsConfig}
 use Rattle.diagnostics.specs.declared.report.SurfaceDiagnostics.{SurfaceDiagnostics}

@@ -1,9 +1,9 @@
 // The fit of one slice, for callers outside.
 ghost use mathlib.Core.Path.{_≡_};
-ghost use Rattle.calibrate.specs.Settings.{defaultsOf};
+ghost use Rattle.records.specs.Settings.{defaultsOf};
 ghost use Rattle.calibrate.specs.Fit.{Fitted};
-use calibrate::FitAnswer;
-use calibrate::FitConfig;
+use records::FitAnswer;
+use records::FitConfig;
 
 // The default settings.
 #[no_mangle]

@@ -14,10 +14,10 @@ use Rattle.laws.proofs.Choices.{cond-ind, false-true}
 use Rattle.laws.proofs.Loops.{for-ind}
 use Rattle.slice.specs.declared.SviSlice.{SviSlice}
 use Rattle.weights.specs.Weights.{scaledOf, cappedAt, cappedOf}
-use Rattle.calibrate.specs.declared.FitConfig.{FitConfig}
-use Rattle.calibrate.specs.declared.FitAnswer.{FitAnswer}
-use Rattle.calibrate.specs.Entry.{entryNumber}
-use Rattle.calibrate.specs.End.{refusedWith}
+use Rattle.records.specs.declared.FitConfig.{FitConfig}
+use Rattle.records.specs.declared.FitAnswer.{FitAnswer}
+use Rattle.entry.specs.Entry.{entryNumber}
+use Rattle.records.specs.Answer.{refusedWith}
 use Rattle.calibrate.specs.Fit.{decidedOf, refusedEarly, cappedAs, fitOf, residualsOf}
 use Rattle.calibrate.proofs.Quads.{residuals-length}
 

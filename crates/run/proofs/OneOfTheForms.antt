@@ -15,13 +15,16 @@ use Rattle.laws.proofs.Choices.{cond-ind, false-true, both}
 use Rattle.laws.proofs.Loops.{for-ind}
 use Rattle.slice.specs.declared.SviSlice.{SviSlice}
 use Rattle.slice.specs.Slice.{numberOf}
-use Rattle.search.specs.declared.Counts.{Counts}
+use Rattle.records.specs.declared.Counts.{Counts}
 use Rattle.weights.specs.Weights.{scaledOf, allGood, cappedOf}
-use Rattle.calibrate.specs.declared.FitConfig.{FitConfig}
-use Rattle.calibrate.specs.declared.FitAnswer.{FitAnswer}
-use Rattle.calibrate.specs.Settings.{settingsHold}
-use Rattle.calibrate.specs.Entry.{lengthsHold, sizesHold, passes, allPass as columnsPass, spanOf, checksNumber, entryNumber}
-use Rattle.calibrate.specs.End.{refusedWith, sumsOf, paramsHold, rmseOf, rmseHolds, acceptedOf, endOf}
+use Rattle.records.specs.declared.FitConfig.{FitConfig}
+use Rattle.records.specs.declared.FitAnswer.{FitAnswer}
+use Rattle.records.specs.Settings.{settingsHold, sizesHold}
+use Rattle.entry.specs.Entry.{lengthsHold, allPass as columnsPass, spanOf, checksNumber, entryNumber}
+use Rattle.records.specs.Observation.{passes}
+use Rattle.records.specs.Answer.{refusedWith}
+use Rattle.judge.specs.Judge.{sumsOf, paramsHold, rmseOf, rmseHolds}
+use Rattle.calibrate.specs.End.{acceptedOf, endOf}
 use Rattle.calibrate.specs.Fit.{fitSearch, bestEnd, searchEnd, decidedOf, refusedEarly, cappedAs, fitOf}
 use Rattle.house.specs.declared.House.{House}
 use Rattle.house.specs.declared.House.the-variants.{Malformed, File}

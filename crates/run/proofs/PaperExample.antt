@@ -16,9 +16,9 @@ use Rattle.bits.specs.Bytes.{u64At}
 use Rattle.laws.specs.Loop.{turns}
 use Rattle.laws.specs.Floats.{finite}
 use lib.Ieee.{ofBits, lt, le, eq}
-use Rattle.calibrate.specs.Entry.{lengthsHold, sizesHold, allPass as columnsPass, checksNumber, entryNumber}
-use Rattle.calibrate.specs.Settings.{settingsHold}
-use Rattle.calibrate.specs.End.{refusedWith}
+use Rattle.entry.specs.Entry.{lengthsHold, allPass as columnsPass, checksNumber, entryNumber}
+use Rattle.records.specs.Settings.{sizesHold, settingsHold}
+use Rattle.records.specs.Answer.{refusedWith}
 use Rattle.calibrate.specs.Fit.{fitOf}
 use Rattle.run.specs.Answer.{answerText, fitText, answerOf}
 

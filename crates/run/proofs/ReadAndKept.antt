@@ -9,7 +9,7 @@ use lib.ListN.{length}
 use borrow.Author.Tests.{le-leb}
 use Rattle.laws.specs.Choice.{unless}
 use Rattle.laws.proofs.Choices.{cond-ind}
-use Rattle.calibrate.specs.Entry.{sizesHold}
+use Rattle.records.specs.Settings.{sizesHold}
 use Rattle.calibrate.specs.Fit.{fitOf}
 use Rattle.house.specs.declared.House.{House}
 use Rattle.house.specs.declared.House.the-variants.{Malformed, File}

@@ -11,10 +11,10 @@ use borrow.Author.Tests.{le-leb}
 use Rattle.laws.specs.Choice.{unless}
 use Rattle.laws.proofs.Choices.{if-false, cond-ind}
 use Rattle.weights.specs.Weights.{cappedOf}
-use Rattle.calibrate.specs.declared.FitConfig.{FitConfig}
-use Rattle.calibrate.specs.declared.FitAnswer.{FitAnswer}
+use Rattle.records.specs.declared.FitConfig.{FitConfig}
+use Rattle.records.specs.declared.FitAnswer.{FitAnswer}
 use Rattle.calibrate.specs.Fit.{fitOf, residualsOf}
-use Rattle.calibrate.specs.Entry.{sizesHold}
+use Rattle.records.specs.Settings.{sizesHold}
 use Rattle.house.specs.declared.House.{House}
 use Rattle.house.specs.declared.House.the-variants.{File}
 use Rattle.house.specs.declared.Taken.{Taken}

@@ -7,8 +7,8 @@ use lib.ListN.{length}
 use lib.Ieee.{Float}
 use Rattle.laws.proofs.Choices.{number-stops, number-goes}
 use Rattle.weights.specs.Weights.{cappedOf}
-use Rattle.calibrate.specs.declared.FitConfig.{FitConfig}
-use Rattle.calibrate.specs.declared.FitAnswer.{FitAnswer}
+use Rattle.records.specs.declared.FitConfig.{FitConfig}
+use Rattle.records.specs.declared.FitAnswer.{FitAnswer}
 use Rattle.calibrate.specs.Fit.{fitOf, residualsOf}
 use Rattle.house.specs.File.{tauOf, configOf}
 use Rattle.house.specs.Check.{kOf, wOf, weightOf}

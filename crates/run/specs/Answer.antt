@@ -6,8 +6,8 @@ use lib.Ieee.{Float}
 use Rattle.laws.specs.Choice.{unless}
 use Rattle.weights.specs.Weights.{cappedOf}
 use Rattle.calibrate.specs.Fit.{fitOf, residualsOf}
-use Rattle.calibrate.specs.declared.FitConfig.{FitConfig}
-use Rattle.calibrate.specs.declared.FitAnswer.{FitAnswer}
+use Rattle.records.specs.declared.FitConfig.{FitConfig}
+use Rattle.records.specs.declared.FitAnswer.{FitAnswer}
 use Rattle.house.specs.File.{tauOf, configOf}
 use Rattle.house.specs.Check.{kOf, wOf, weightOf}
 use Rattle.house.specs.Taken.{takenOf, keptOf}

@@ -10,7 +10,7 @@ use Rattle.laws.proofs.Loops.{below-next}
 use Rattle.cell.specs.declared.Cell.{Cell}
 use Rattle.search.specs.declared.Window.{Window}
 use Rattle.search.specs.declared.PassBest.{PassBest}
-use Rattle.search.specs.declared.Counts.{Counts}
+use Rattle.records.specs.declared.Counts.{Counts}
 use Rattle.search.specs.declared.Found.{Found}
 use Rattle.search.specs.declared.Place.{Place}
 use Rattle.search.specs.declared.Plan.{Plan}

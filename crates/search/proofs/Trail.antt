@@ -13,7 +13,7 @@ use Rattle.laws.specs.Loop.{turns}
 use Rattle.laws.proofs.Loops.{turns-last, below-next}
 use Rattle.laws.proofs.Choices.{cond-ind, cond-test, both, false-true}
 use Rattle.search.specs.declared.PassBest.{PassBest}
-use Rattle.search.specs.declared.Counts.{Counts}
+use Rattle.records.specs.declared.Counts.{Counts}
 use Rattle.search.specs.declared.Found.{Found}
 use Rattle.search.specs.declared.Place.{Place}
 use Rattle.search.specs.declared.Plan.{Plan}

@@ -1,12 +1,12 @@
 -- The moves of the window as the code works them out are those defined. Assumes nothing.
 use mathlib.Core.Path.{_≡_, ap, _∙_}
 use mathlib.Core.Bool.{true, false, cond}
-use Prim.Native.Nat.{ℕ, _+_, _-_}
+use Prim.Native.Nat.{ℕ, _+_}
 use lib.Ieee.{Float, lt}
 use Rattle.laws.specs.Floats.{_*f_, two}
 use Rattle.search.specs.declared.Axis.{Axis}
 use Rattle.search.specs.declared.Window.{Window}
-use Rattle.search.specs.declared.Counts.{Counts}
+use Rattle.records.specs.declared.Counts.{Counts}
 use Rattle.search.specs.declared.Found.{Found}
 use Rattle.search.specs.declared.Place.{Place}
 use Rattle.search.specs.declared.Plan.{Plan}

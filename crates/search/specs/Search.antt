@@ -10,7 +10,8 @@ use Rattle.cell.specs.Cell.{noCell}
 use Rattle.search.specs.declared.Axis.{Axis}
 use Rattle.search.specs.declared.Window.{Window}
 use Rattle.search.specs.declared.PassBest.{PassBest}
-use Rattle.search.specs.declared.Counts.{Counts}
+use Rattle.records.specs.declared.Counts.{Counts}
+use Rattle.records.specs.Answer.{noCounts}
 use Rattle.search.specs.declared.Found.{Found}
 use Rattle.search.specs.declared.Place.{Place}
 use Rattle.search.specs.declared.Plan.{Plan}
@@ -166,9 +167,6 @@ stepOf f p s =
     let b = passOf f (s .window) (p .n) in
     let n = countedOf (s .counts) b in
     cond (b .cell .some) (movedOf p s n b) (refusedOf s n)
-
-abbrev pub noCounts : Counts
-noCounts = record { passes = 0; recentres = 0; shrinks = 0; cells = 0; faces = 0 }
 
 -- the first window is the whole domain
 unfoldable pub startOf : Plan → Search

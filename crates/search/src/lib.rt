@@ -10,6 +10,7 @@ ghost use Rattle.search.specs.Run.{fitCell, sizesHold, runOf};
 ghost use Rattle.search.specs.Roomy.{Roomy};
 use cell::Cell;
 use cell::Limits;
+use records::Counts;
 
 // One axis of a window.
 #[repr(C)]
@@ -30,16 +31,6 @@ pub struct PassBest {
     pub cell: Cell,
     pub i: usize,
     pub j: usize,
-    pub cells: usize,
-    pub faces: usize,
-}
-
-// What the search did.
-#[repr(C)]
-pub struct Counts {
-    pub passes: usize,
-    pub recentres: usize,
-    pub shrinks: usize,
     pub cells: usize,
     pub faces: usize,
 }

@@ -3,7 +3,6 @@ ghost use mathlib.Core.Path.{_≡_};
 ghost use Prim.Native.Nat.{_-_, _^_, _<_};
 ghost use Rattle.search.specs.Search.{openEdge, placeOf, improves, foundOf, around, growOf, recentred, stepOn, narrowed, shrunk, stopped, canRecentre, canShrink, movedOf, countedOf, refusedOf};
 use crate::Axis;
-use crate::Counts;
 use crate::Found;
 use crate::PassBest;
 use crate::Place;
@@ -12,6 +11,7 @@ use crate::Search;
 use crate::Window;
 use crate::points;
 use cell::Cell;
+use records::Counts;
 
 fn within(c: f64, h: f64, d: Axis) -> Axis
     ensures { λ r. ⌜ r ≡ around c h d ⌝ }

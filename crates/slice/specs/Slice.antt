@@ -138,3 +138,9 @@ leeSlopeOf s = levelOf s (leeOf s)
 -- `eval`
 unfoldable pub evalOf : SviSlice → Float → Evaluated
 evalOf s k = unless (eqb (numberOf s) 0) (evaluated.Refused (numberOf s)) (evalRaw s k)
+
+-- ---- where there is no slice
+
+-- a record of zeros
+abbrev pub noSlice : SviSlice
+noSlice = record { tau = +0; a = +0; b = +0; rho = +0; m = +0; sigma = +0; «k_range» = record { lo = +0; hi = +0 } }

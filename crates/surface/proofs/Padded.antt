@@ -11,7 +11,8 @@ use lib.ListN.{length, take, getD, length-append}
 use lib.Seq.{take-suc}
 use borrow.Author.Tests.{lt-ltb, le-ltb}
 use Rattle.slice.specs.declared.SviSlice.{SviSlice}
-use Rattle.surface.specs.Runs.{noSlice, pad, runOf}
+use Rattle.slice.specs.Slice.{noSlice}
+use Rattle.surface.specs.Runs.{pad, runOf}
 use Rattle.surface.specs.Inner.{keptIf, pushed}
 
 -- `compare` is stuck at a variable

@@ -9,14 +9,10 @@ use Rattle.laws.specs.Choice.{unless}
 use Rattle.laws.specs.Floats.{+0, at}
 use Rattle.laws.specs.Loop.{for}
 use Rattle.slice.specs.declared.SviSlice.{SviSlice}
-use Rattle.slice.specs.Slice.{numberOf}
+use Rattle.slice.specs.Slice.{numberOf, noSlice}
 use Rattle.surface.specs.declared.types.Run.{Run}
 
 -- ---- a copy of a lent run
-
--- a record of zeros
-abbrev pub noSlice : SviSlice
-noSlice = record { tau = +0; a = +0; b = +0; rho = +0; m = +0; sigma = +0; «k_range» = record { lo = +0; hi = +0 } }
 
 -- the first n records, filled up with records of zeros
 unfoldable pub pad : ℕ → List SviSlice → List SviSlice

@@ -2,7 +2,8 @@
 ghost use mathlib.Core.Path.{_≡_};
 ghost use mathlib.Core.List.{[]};
 ghost use Prim.Native.Nat.{_+_, _<_, _≤_, _^_};
-ghost use Rattle.surface.specs.Runs.{noSlice, runOf, tausOf, firstBad, risesOf, checkRun};
+ghost use Rattle.slice.specs.Slice.{noSlice};
+ghost use Rattle.surface.specs.Runs.{runOf, tausOf, firstBad, risesOf, checkRun};
 ghost use Rattle.surface.specs.Inner.{pushed};
 use crate::types::Run;
 use slice::KRange;

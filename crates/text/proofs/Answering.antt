@@ -8,7 +8,7 @@ use lib.ListN.{length}
 use lib.Ieee.{Float}
 use borrow.Author.Tests.{eq-eqb, ne-eqb}
 use Rattle.laws.specs.Choice.{unless}
-use Rattle.calibrate.specs.declared.FitAnswer.{FitAnswer}
+use Rattle.records.specs.declared.FitAnswer.{FitAnswer}
 use Rattle.text.specs.Lines.{readLine, searchLine, cappedLine, pointLines, refusedLine, refusedFloats}
 use Rattle.text.specs.Answers.{earlyText, isLate, refusedOf, refusalText, figuresText, acceptedText}
 

@@ -6,7 +6,7 @@ use lib.Dec.{eqb, leb}
 use lib.ListN.{length}
 use lib.Ieee.{Float}
 use Rattle.laws.specs.Choice.{unless}
-use Rattle.calibrate.specs.declared.FitAnswer.{FitAnswer}
+use Rattle.records.specs.declared.FitAnswer.{FitAnswer}
 use Rattle.text.specs.Lines.{readLine, fitLine, searchLine, marginsLine, activeLine, cappedLine, pointLines, refusedLine, refusedFloats}
 
 -- refused before repeats are dropped, so that as many are kept as are read; a malformed file, 43, has no `read` line

@@ -8,8 +8,8 @@ use Prim.Native.Char.{code}
 use Prim.Native.String.{String, [] as ε, _∷_ as _◂_}
 use Rattle.laws.specs.Loop.{for}
 use Rattle.slice.specs.declared.SviSlice.{SviSlice}
-use Rattle.search.specs.declared.Counts.{Counts}
-use Rattle.calibrate.specs.declared.FitAnswer.{FitAnswer}
+use Rattle.records.specs.declared.Counts.{Counts}
+use Rattle.records.specs.declared.FitAnswer.{FitAnswer}
 use Rattle.text.specs.Digits.{floatsOf, countsOf, marksOf}
 
 -- a quoted text's bytes

@@ -1,6 +1,6 @@
 // The lines of an answer, one after the other. Each function writes at a place, for which its caller has made room, and answers the next place.
 use crate::lines;
-use calibrate::FitAnswer;
+use records::FitAnswer;
 ghost use mathlib.Core.Path.{_≡_};
 ghost use mathlib.Core.List.{_++_};
 ghost use Prim.Native.Nat.{_+_, _*_, _/_, _≤_};

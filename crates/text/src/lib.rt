@@ -1,5 +1,5 @@
 // The answers of the fit program as text, each for every input: a text is written whole at the front of the room where the room holds it, else nothing is, and how long it is comes back.
-use calibrate::FitAnswer;
+use records::FitAnswer;
 
 mod digits; // digits.rt: bytes and numbers
 mod lines; // lines.rt: one line each

@@ -5,11 +5,14 @@ pub mod SettledSlice
 pub mod SettledPoint
 pub mod SettledSurface
 pub mod SettledDiagnostics
+pub mod SettledRecords
 pub mod SettledSolver
 pub mod SettledPolytope
 pub mod SettledFaces
 pub mod SettledCell
 pub mod SettledWeights
+pub mod SettledEntry
+pub mod SettledJudge
 pub mod SettledSearch
 pub mod SettledCalibrate
 pub mod SettledHouse

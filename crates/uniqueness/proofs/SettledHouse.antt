@@ -1,6 +1,5 @@
 -- No second answer meets the contract of a public function of crate `house`. Written by tools/settle from the contracts. Assumes nothing.
 use Prim.Native.Nat.{ℕ}
-use Rattle.calibrate.specs.declared.FitConfig.{FitConfig}
 use Rattle.house.specs.Check.{kOf, wOf, weightOf}
 use Rattle.house.specs.File.{configOf, houseOf, tauOf}
 use Rattle.house.specs.Taken.{keptOf, takenOf}
@@ -8,6 +7,7 @@ use Rattle.house.specs.declared.House.{House}
 use Rattle.house.specs.declared.Taken.{Taken}
 use Rattle.laws.proofs.Choices.{settled}
 use Rattle.laws.specs.Room.{written}
+use Rattle.records.specs.declared.FitConfig.{FitConfig}
 use lib.Ieee.{Float}
 use lib.ListN.{length}
 use mathlib.Core.List.{List, map}

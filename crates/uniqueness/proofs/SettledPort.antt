@@ -1,9 +1,6 @@
 -- No second answer meets the contract of a public function of crate `port`. Written by tools/settle from the contracts. Assumes nothing.
 use Prim.Native.Nat.{_≤_, ℕ}
 use Rattle.calibrate.specs.Fit.{Fitted}
-use Rattle.calibrate.specs.Settings.{defaultsOf}
-use Rattle.calibrate.specs.declared.FitAnswer.{FitAnswer}
-use Rattle.calibrate.specs.declared.FitConfig.{FitConfig}
 use Rattle.cell.specs.Cell.{innerOf}
 use Rattle.cell.specs.declared.Cell.{Cell}
 use Rattle.cell.specs.declared.Limits.{Limits}
@@ -27,6 +24,9 @@ use Rattle.port.specs.declared.answers.RegionAnswer.{RegionAnswer}
 use Rattle.port.specs.declared.answers.SliceAnswer.{SliceAnswer}
 use Rattle.port.specs.declared.answers.TotalAnswer.{TotalAnswer}
 use Rattle.port.specs.declared.answers.ValuesAnswer.{ValuesAnswer}
+use Rattle.records.specs.Settings.{defaultsOf}
+use Rattle.records.specs.declared.FitAnswer.{FitAnswer}
+use Rattle.records.specs.declared.FitConfig.{FitConfig}
 use Rattle.roots.specs.Hypot.{hypotOf}
 use Rattle.roots.specs.Root.{rootOf}
 use Rattle.run.specs.Answer.{answerOf}

@@ -1,6 +1,6 @@
 -- No second answer meets the contract of a public function of crate `text`. Written by tools/settle from the contracts. Assumes nothing.
 use Prim.Native.Nat.{_≤_, ℕ}
-use Rattle.calibrate.specs.declared.FitAnswer.{FitAnswer}
+use Rattle.records.specs.declared.FitAnswer.{FitAnswer}
 use Rattle.text.specs.Answers.{acceptedText, earlyText, refusedText}
 use Rattle.text.specs.Place.{placed}
 use lib.Ieee.{Float}

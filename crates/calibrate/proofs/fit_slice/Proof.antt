@@ -5,10 +5,10 @@ use lib.ListN.{length}
 use borrow.Author.Tests.{not-true, not-false}
 use Rattle.laws.proofs.Choices.{number-stops, number-goes, number-no}
 use Rattle.weights.specs.Weights.{scaledOf}
-use Rattle.calibrate.specs.declared.FitAnswer.{FitAnswer}
-use Rattle.calibrate.specs.End.{refusedWith}
+use Rattle.records.specs.declared.FitAnswer.{FitAnswer}
+use Rattle.records.specs.Answer.{refusedWith}
 use Rattle.calibrate.specs.Fit.{refusedEarly, decidedOf, fitOf}
-use Rattle.calibrate.proofs.Known.{passed, entry-first, entry-five, entry-none, ok-is, cap-is, taken, scaled-long, scaled-within}
+use Rattle.entry.proofs.Known.{passed, entry-first, entry-five, entry-none, ok-is, cap-is, taken, scaled-long, scaled-within}
 use Rattle.calibrate.proofs.Contract.{refuses, accepts}
 use borrow.Author.Needs.{needs}
 use native.Mathlib.Omega.{arith}

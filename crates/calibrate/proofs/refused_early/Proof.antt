@@ -1,7 +1,7 @@
 -- `calibrate::refused_early` meets its contract. Assumes nothing.
 use mathlib.Core.Path.{_∙_}
 use Rattle.laws.specs.Floats.{+0}
-use Rattle.calibrate.specs.End.{noCounts, refusedWith}
+use Rattle.records.specs.Answer.{noCounts, refusedWith}
 use Rattle.calibrate.proofs.refused_early.Statement.{statement}
 use Rattle.calibrate.proofs.refused_early.Tie as tie
 

@@ -2,8 +2,8 @@
 use mathlib.Core.Path.{refl, ap, _∙_}
 use borrow.Author.Needs.{needs}
 use Rattle.laws.proofs.Choices.{stops, goes}
-use Rattle.calibrate.specs.Entry.{sizesHold}
-use Rattle.calibrate.specs.declared.FitConfig.{FitConfig}
+use Rattle.records.specs.Settings.{sizesHold}
+use Rattle.records.specs.declared.FitConfig.{FitConfig}
 use Rattle.house.specs.Taken.{refusalOf}
 use Rattle.house.proofs.refusal_of.Statement.{statement}
 use Rattle.house.proofs.refusal_of.Tie as tie

@@ -3,7 +3,7 @@ use mathlib.Core.Path.{_≡_, ap, sym}
 use Prim.Native.Nat.{_*_}
 use native.Mathlib.Nat.{le-refl, mul-assoc}
 use Rattle.laws.proofs.Choices.{if-true, if-false}
-use Rattle.search.specs.declared.Counts.{Counts}
+use Rattle.records.specs.declared.Counts.{Counts}
 use Rattle.search.specs.Search.{countedOf, passOf, stepOf}
 use Rattle.search.specs.Run.{fitCell}
 use Rattle.search.specs.Promised.{sum}

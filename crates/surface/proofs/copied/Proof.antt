@@ -44,7 +44,8 @@ use denote.Triple.Spec.{Meets, tripleOf}
 use denote.Triple.Table.{entered, cited}
 use denote.Triple.Walked.{says, Stays, stay-none-slice, walkOf, goes-none-slice, Walks, ends-at, walked, walk-meets}
 use denote.Exit.{yes}
-use Rattle.surface.specs.Runs.{noSlice, runOf}
+use Rattle.slice.specs.Slice.{noSlice}
+use Rattle.surface.specs.Runs.{runOf}
 use Rattle.surface.specs.Inner.{pushed}
 use Rattle.slice.specs.declared.SviSlice.{SviSlice}
 use Rattle.surface.specs.declared.types.Run.{Run}

@@ -1,5 +1,7 @@
 -- `calibrate::ending::end` meets its contract. Assumes nothing.
+use mathlib.Core.Path.{_∙_}
 use Rattle.laws.proofs.Choices.{stops, goes, number-stops, number-goes}
+use Rattle.judge.proofs.Judging.{sums-are}
 use Rattle.calibrate.specs.End.{endOf}
 use Rattle.calibrate.proofs.ending.end.Statement.{statement}
 use Rattle.calibrate.proofs.ending.end.Tie as tie
@@ -10,12 +12,12 @@ returns c = number-stops _ (c .before .before .number .ensures) (c .before .if1 
 
 returns-2 : tie.Need-returns-2
 unfolding endOf
-returns-2 c = rw (← c .before .before .before .sums-of .ensures) (number-goes _ (c .before .before .before .before .before .number .ensures) (c .before .before .before .before .if1 .left) (stops _ (c .before .before .params-hold .ensures) (c .before .if2 .taken) (c .refusal2 .ensures)))
+returns-2 c = rw (← (c .before .before .before .sums-of .ensures ∙ sums-are _ _ _ _ (c .before .before .before .before .before .before .before .before .before .pre))) (number-goes _ (c .before .before .before .before .before .number .ensures) (c .before .before .before .before .if1 .left) (stops _ (c .before .before .params-hold .ensures) (c .before .if2 .taken) (c .refusal2 .ensures)))
 
 returns-3 : tie.Need-returns-3
 unfolding endOf
 returns-3 c =
-    rw (← c .before .before .before .before .before .before .sums-of .ensures, ← c .before .before .before .rmse-of .ensures)
+    rw (← (c .before .before .before .before .before .before .sums-of .ensures ∙ sums-are _ _ _ _ (c .before .before .before .before .before .before .before .before .before .before .before .before .pre)), ← c .before .before .before .rmse-of .ensures)
     (number-goes _ (c .before .before .before .before .before .before .before .before .number .ensures) (c .before .before .before .before .before .before .before .if1 .left)
     (goes _ (c .before .before .before .before .before .params-hold .ensures) (c .before .before .before .before .if2 .left)
     (stops _ (c .before .before .rmse-holds .ensures) (c .before .if3 .taken) (c .refusal3 .ensures))))
@@ -23,7 +25,7 @@ returns-3 c =
 returns-4 : tie.Need-returns-4
 unfolding endOf
 returns-4 c =
-    rw (← c .before .before .before .before .before .before .sums-of .ensures, ← c .before .before .before .rmse-of .ensures)
+    rw (← (c .before .before .before .before .before .before .sums-of .ensures ∙ sums-are _ _ _ _ (c .before .before .before .before .before .before .before .before .before .before .before .before .pre)), ← c .before .before .before .rmse-of .ensures)
     (number-goes _ (c .before .before .before .before .before .before .before .before .number .ensures) (c .before .before .before .before .before .before .before .if1 .left)
     (goes _ (c .before .before .before .before .before .params-hold .ensures) (c .before .before .before .before .if2 .left)
     (goes _ (c .before .before .rmse-holds .ensures) (c .before .if3 .left) (c .accepted .ensures))))
@@ -35,7 +37,7 @@ end-spec =
     (λ c κs. tt)
     (λ c κs. tt)
     returns
-    (λ c κs. c .before .before .before .before .before .pre)
+    (λ c κs. tt)
     (λ c κs. tt)
     (λ c κs. tt)
     returns-2

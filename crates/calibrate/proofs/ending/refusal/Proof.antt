@@ -1,6 +1,6 @@
 -- `calibrate::ending::refusal` meets its contract. Assumes nothing.
 use mathlib.Core.Path.{refl}
-use Rattle.calibrate.specs.End.{refusedWith}
+use Rattle.records.specs.Answer.{refusedWith}
 use Rattle.calibrate.proofs.ending.refusal.Statement.{statement}
 use Rattle.calibrate.proofs.ending.refusal.Tie as tie
 

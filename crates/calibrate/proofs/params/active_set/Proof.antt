@@ -2,12 +2,11 @@
 use mathlib.Core.Path.{_≡_, refl, ap}
 use Prim.Native.Nat.{_-_}
 use Rattle.laws.specs.Loop.{for}
-use Rattle.laws.specs.Floats.{at}
+use Rattle.laws.specs.Floats.{at, _-f_}
 use Rattle.laws.proofs.Loops.{again, ended}
 use mathlib.Core.Bool.{false, _||_}
 use lib.ListN.{getD, set}
 use lib.Ieee.{Float, le}
-use Rattle.laws.specs.Floats.{_-f_}
 use Rattle.polytope.specs.Polytope.{dotOf}
 use Rattle.calibrate.specs.End.{activeOf}
 use native.Mathlib.Omega.{arith}
