@@ -24,9 +24,8 @@ use Rattle.search.proofs.Least.{refusal, yields}
 use Rattle.records.specs.declared.FitConfig.{FitConfig}
 use Rattle.judge.specs.declared.Sums.{Sums}
 use Rattle.records.specs.Settings.{settingsHold}
-use Rattle.entry.specs.Entry.{rangeOf}
-use Rattle.judge.specs.Judge.{readingOf, residualAt, addedTo, sumsOf, highestOf, paramsHold, rmseHolds}
-use Rattle.calibrate.specs.Fit.{planOf, limitsOf, fitSearch}
+use Rattle.judge.specs.Judge.{readingOf, residualAt, addedTo, sumsOf, paramsHold, rmseHolds}
+use Rattle.calibrate.specs.Fit.{planOf, limitsFor, planFor, fitSearch}
 use Rattle.calibrate.specs.When.{FacelessPass}
 use Rattle.judge.specs.When.{OutOfDomain, RmseAboveMax, rmseAt}
 use Rattle.entry.proofs.Conditions.{split, off, some-fails, none-fails, below, not-both, max-finite}
@@ -36,10 +35,10 @@ use Rattle.judge.specs.When as judge
 
 module _ (c : FitConfig) (ks ws ts : List Float) where
   abbrev cells : CellFn
-  cells = fitCell ks ws ts (limitsOf c (highestOf ws (c .«a_min»)))
+  cells = fitCell ks ws ts (limitsFor c ws)
 
   abbrev plan : Plan
-  plan = planOf c (rangeOf ks)
+  plan = planFor c ks
 
   none-there : (b : Bool) → (T b → ⊥) → b ≡ false
   none-there true h = absurd (h tt)

@@ -9,17 +9,18 @@ use lib.Ieee.{Float}
 use borrow.Author.Tests.{eq-eqb, ne-eqb}
 use Rattle.laws.specs.Choice.{unless}
 use Rattle.laws.proofs.Choices.{if-true, if-false}
+use Rattle.slice.specs.declared.SviSlice.{SviSlice}
 use Rattle.slice.specs.Slice.{numberOf}
-use Rattle.weights.specs.Weights.{scaledOf, cappedOf}
+use Rattle.search.specs.declared.Search.{Search}
+use Rattle.weights.specs.Weights.{cappedOf}
 use Rattle.records.specs.declared.FitConfig.{FitConfig}
 use Rattle.records.specs.declared.FitAnswer.{FitAnswer}
 use Rattle.judge.specs.declared.Sums.{Sums}
-use Rattle.entry.specs.Entry.{entryNumber}
+use Rattle.entry.specs.Entry.{rangeOf, entryNumber}
 use Rattle.records.specs.Answer.{refusedWith}
 use Rattle.judge.specs.Judge.{sumsOf, paramsHold, rmseOf, rmseHolds}
 use Rattle.calibrate.specs.End.{acceptedOf, endOf}
-pub use Rattle.calibrate.specs.When.{found, aMax, sigma, active, fitted}
-use Rattle.calibrate.specs.Fit.{bestEnd, searchEnd, decidedOf, refusedEarly, cappedAs, fitOf}
+use Rattle.calibrate.specs.Fit.{aMaxFor, fitSearch, scaledFor, sliceFrom, bestEnd, searchEnd, decidedOf, refusedEarly, cappedAs, fitOf}
 
 -- a function of a choice is the choice of its values
 of-cond : {A B : Type 0} (f : A → B) (b : Bool) (x y : A) → f (cond b x y) ≡ cond b (f x) (f y)
@@ -27,19 +28,26 @@ of-cond f true x y = refl
 of-cond f false x y = refl
 
 module _ (tau : Float) (c : FitConfig) (ks ws ts : List Float) where
-  abbrev pub sums : Sums
-  sums = sumsOf (fitted tau c ks ws ts) ks ws ts
+  -- what the search found, and the slice there
+  abbrev found : Search
+  found = fitSearch c ks ws ts
 
-  abbrev pub rmse : Float
+  abbrev fitted : SviSlice
+  fitted = sliceFrom tau c (rangeOf ks) (aMaxFor c ws) (found .found)
+
+  abbrev sums : Sums
+  sums = sumsOf fitted ks ws ts
+
+  abbrev rmse : Float
   rmse = rmseOf sums (length ks)
 
   -- 6, 7, 8, 9, or 0
   unfoldable pub lateNumber : ℕ
   lateNumber =
-      cond (found tau c ks ws ts .refused) 6
-      (cond (found tau c ks ws ts .found .«on_edge») 7
-      (unless (eqb (numberOf (fitted tau c ks ws ts)) 0) 8
-      (unless (paramsHold c (aMax tau c ks ws ts) (found tau c ks ws ts .found .cell .objective) sums) 8
+      cond (found .refused) 6
+      (cond (found .found .«on_edge») 7
+      (unless (eqb (numberOf fitted) 0) 8
+      (unless (paramsHold c (aMaxFor c ws) (found .found .cell .objective) sums) 8
       (unless (rmseHolds c rmse) 9
       0))))
 
@@ -47,15 +55,15 @@ module _ (tau : Float) (c : FitConfig) (ks ws ts : List Float) where
   unfolding decidedOf searchEnd bestEnd endOf refusedWith acceptedOf lateNumber
   late-number =
       let n : FitAnswer → ℕ = λ a. a .number in
-      let o = found tau c ks ws ts .found .cell .objective in
-      of-cond n (found tau c ks ws ts .refused) _ _
-      ∙ ap (cond (found tau c ks ws ts .refused) 6)
-      (of-cond n (found tau c ks ws ts .found .«on_edge») _ _
-      ∙ ap (cond (found tau c ks ws ts .found .«on_edge») 7)
-      (of-cond n (eqb (numberOf (fitted tau c ks ws ts)) 0) _ _
-      ∙ ap (unless (eqb (numberOf (fitted tau c ks ws ts)) 0) 8)
-      (of-cond n (paramsHold c (aMax tau c ks ws ts) o sums) _ _
-      ∙ ap (unless (paramsHold c (aMax tau c ks ws ts) o sums) 8)
+      let o = found .found .cell .objective in
+      of-cond n (found .refused) _ _
+      ∙ ap (cond (found .refused) 6)
+      (of-cond n (found .found .«on_edge») _ _
+      ∙ ap (cond (found .found .«on_edge») 7)
+      (of-cond n (eqb (numberOf fitted) 0) _ _
+      ∙ ap (unless (eqb (numberOf fitted) 0) 8)
+      (of-cond n (paramsHold c (aMaxFor c ws) o sums) _ _
+      ∙ ap (unless (paramsHold c (aMaxFor c ws) o sums) 8)
       (of-cond n (rmseHolds c rmse) _ _))))
 
 module _ (tau : Float) (c : FitConfig) (ks ws ts : List Float) (room slots : ℕ) where
@@ -63,7 +71,7 @@ module _ (tau : Float) (c : FitConfig) (ks ws ts : List Float) (room slots : ℕ
   entry = entryNumber tau c ks ws ts room slots
 
   abbrev pub scaled : List Float
-  scaled = scaledOf (c .«max_weight_ratio») ts
+  scaled = scaledFor c ts
 
   abbrev decided : FitAnswer
   decided = decidedOf tau c ks ws scaled
@@ -84,11 +92,6 @@ module _ (tau : Float) (c : FitConfig) (ks ws ts : List Float) (room slots : ℕ
   pub early-answer : (entry ≡ 0 → ⊥) → fitOf tau c ks ws ts room slots ≡ refusedEarly entry (length ks) (c .«min_observations»)
   unfolding fitOf
   early-answer h = sym (if-false _ (ne-eqb entry 0 h) refl)
-
-  -- 6 to 9: what the end of the fit decided
-  pub late-answer : entry ≡ 0 → (decided .number ≡ 0 → ⊥) → fitOf tau c ks ws ts room slots ≡ decided
-  unfolding fitOf
-  late-answer h k = sym (if-true _ (eq-eqb entry 0 h) (if-false _ (ne-eqb (decided .number) 0 k) refl))
 
   -- an accepted fit, with how many weights were capped
   pub accepted-answer : entry ≡ 0 → decided .number ≡ 0 → fitOf tau c ks ws ts room slots ≡ cappedAs decided (length (cappedOf (c .«max_weight_ratio») ts))

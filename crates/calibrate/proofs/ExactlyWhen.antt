@@ -16,12 +16,12 @@ use Rattle.laws.proofs.Choices.{cond-test}
 use Rattle.laws.proofs.Comparing.{lt-or-le}
 use Rattle.slice.specs.declared.SviSlice.{SviSlice}
 use Rattle.slice.specs.Slice.{numberOf}
-use Rattle.weights.specs.Weights.{scaledOf, allGood}
+use Rattle.weights.specs.Weights.{allGood}
 use Rattle.records.specs.declared.FitConfig.{FitConfig}
 use Rattle.records.specs.Settings.{settingsHold, sizesHold}
 use Rattle.entry.specs.Entry.{lengthsHold, allPass, spanOf, checksNumber, entryNumber}
-use Rattle.judge.specs.Judge.{sumsOf, highestOf, paramsHold, rmseHolds}
-use Rattle.calibrate.specs.Fit.{fitSearch, fitOf}
+use Rattle.judge.specs.Judge.{sumsOf, paramsHold, rmseHolds}
+use Rattle.calibrate.specs.Fit.{aMaxFor, scaledFor, searchFor, fitOf}
 use Rattle.calibrate.proofs.EachNumber.{lateNumber, answer-number}
 use Rattle.calibrate.specs.When as when
 use Rattle.entry.specs.When.{Some, UnequalOrShort, OverSize, BadObservation, BadSettings, EntryFails}
@@ -65,7 +65,7 @@ module _ (tau : Float) (c : FitConfig) (ks ws ts : List Float) (room slots : ℕ
 
   -- the scaled weights, and the slice that the fit tries
   abbrev pub scaled : List Float
-  scaled = scaledOf (c .«max_weight_ratio») ts
+  scaled = scaledFor c ts
 
   abbrev pub tried : SviSlice
   tried = when.tried tau c ks ws ts room slots
@@ -85,7 +85,7 @@ module _ (tau : Float) (c : FitConfig) (ks ws ts : List Float) (room slots : ℕ
       (cond (eqb n 5) (Some (length ts) (λ i. positive (at scaled i) ≡ false))
       (cond (eqb n 6) (FacelessPass c ks ws scaled)
       (cond (eqb n 7) (OnEdge c ks ws scaled)
-      (cond (eqb n 8) (OutOfDomain c tried ks ws scaled (highestOf ws (c .«a_min»)) (fitSearch c ks ws scaled .found .cell .objective))
+      (cond (eqb n 8) (OutOfDomain c tried ks ws scaled (aMaxFor c ws) (searchFor c ks ws ts .found .cell .objective))
       (cond (eqb n 9) (RmseAboveMax c tried ks ws scaled)
       ⊥)))))))))))
 
@@ -207,12 +207,12 @@ module _ (tau : Float) (c : FitConfig) (ks ws ts : List Float) (room slots : ℕ
   late-told : Clear 8 → Told 12 (lateNumber tau c ks ws scaled)
   unfolding lateNumber
   late-told c8 =
-      let high = highestOf ws (c .«a_min») in
-      let o = fitSearch c ks ws scaled .found .cell .objective in
-      cond-test (Told 12) (fitSearch c ks ws scaled .refused)
+      let high = aMaxFor c ws in
+      let o = searchFor c ks ws ts .found .cell .objective in
+      cond-test (Told 12) (searchFor c ks ws ts .refused)
       (λ h. inr (when.no-face refl (late.search-fails c ks ws scaled h), c8))
       (λ e. let c9 = next 8 (late.search-refutes c ks ws scaled e) c8 in
-      cond-test (Told 12) (fitSearch c ks ws scaled .found .«on_edge»)
+      cond-test (Told 12) (searchFor c ks ws ts .found .«on_edge»)
       (λ h. inr (when.on-edge refl h, c9))
       (λ e. let c10 = next 9 (λ h. off e h) c9 in
       cond-test (Told 12) (eqb (numberOf tried) 0)
@@ -298,7 +298,7 @@ module _ (tau : Float) (c : FitConfig) (ks ws ts : List Float) (room slots : ℕ
   pub when-7 : (number ≡ 7) ↔ (OnEdge c ks ws scaled × NoneBefore 7)
   when-7 = exactly 7 (λ z. omega arith) (when.on-edge refl) (own 7)
 
-  pub when-8 : (number ≡ 8) ↔ (OutOfDomain c tried ks ws scaled (highestOf ws (c .«a_min»)) (fitSearch c ks ws scaled .found .cell .objective) × NoneBefore 8)
+  pub when-8 : (number ≡ 8) ↔ (OutOfDomain c tried ks ws scaled (aMaxFor c ws) (searchFor c ks ws ts .found .cell .objective) × NoneBefore 8)
   when-8 = exactly 8 (λ z. omega arith) (when.out-of-domain refl) (own 8)
 
   pub when-9 : (number ≡ 9) ↔ (RmseAboveMax c tried ks ws scaled × NoneBefore 9)

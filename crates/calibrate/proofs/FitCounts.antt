@@ -17,8 +17,8 @@ use Rattle.records.specs.declared.FitAnswer.{FitAnswer}
 use Rattle.records.specs.Settings.{defaultsOf}
 use Rattle.entry.specs.Entry.{entryNumber}
 use Rattle.records.specs.Answer.{noCounts, refusedWith}
-use Rattle.calibrate.specs.Fit.{planOf, fitSearch, fitOf}
-use Rattle.calibrate.specs.Searched.{scaledFor, limitsFor, planFor, searchFor, SizedCounts, DefaultCounts}
+use Rattle.calibrate.specs.Fit.{planOf, scaledFor, limitsFor, planFor, searchFor, fitSearch, fitOf}
+use Rattle.calibrate.specs.Searched.{SizedCounts, DefaultCounts}
 use Rattle.entry.proofs.Known.{passed, entered}
 use Rattle.calibrate.proofs.EachNumber.{early-answer}
 use Rattle.calibrate.proofs.SearchedAsDefined.{searched-as-defined}

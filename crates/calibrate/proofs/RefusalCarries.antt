@@ -12,16 +12,16 @@ use Rattle.laws.specs.Floats.{+0, finite, positive}
 use Rattle.laws.proofs.Choices.{both, cond-ind, cond-test}
 use Rattle.slice.specs.Slice.{numberOf}
 use Rattle.records.specs.declared.Counts.{Counts}
-use Rattle.weights.specs.Weights.{scaledOf, allGood, cappedOf}
+use Rattle.weights.specs.Weights.{allGood, cappedOf}
 use Rattle.records.specs.declared.FitConfig.{FitConfig}
 use Rattle.records.specs.declared.FitAnswer.{FitAnswer}
 use Rattle.records.specs.Settings.{settingsHold, sizesHold}
-use Rattle.entry.specs.Entry.{lengthsHold, allPass, spanOf, checksNumber, entryNumber}
+use Rattle.entry.specs.Entry.{rangeOf, lengthsHold, allPass, spanOf, checksNumber, entryNumber}
 use Rattle.records.specs.Answer.{noCounts, refusedWith}
-use Rattle.judge.specs.Judge.{sumsOf, highestOf, paramsHold, rmseHolds}
+use Rattle.judge.specs.Judge.{sumsOf, paramsHold, rmseHolds}
 use Rattle.calibrate.specs.End.{acceptedOf, endOf}
-use Rattle.calibrate.specs.Fit.{fitSearch, bestEnd, searchEnd, decidedOf, refusedEarly, cappedAs, fitOf}
-use Rattle.calibrate.specs.When.{fitted, refusalOf}
+use Rattle.calibrate.specs.Fit.{aMaxFor, scaledFor, searchFor, sliceFrom, bestEnd, searchEnd, decidedOf, refusedEarly, cappedAs, fitOf}
+use Rattle.calibrate.specs.When.{refusalOf}
 use Rattle.judge.specs.When.{rmseAt}
 
 module _ (tau : Float) (c : FitConfig) (ks ws ts : List Float) (room slots : ℕ) where
@@ -29,14 +29,14 @@ module _ (tau : Float) (c : FitConfig) (ks ws ts : List Float) (room slots : ℕ
   answer = fitOf tau c ks ws ts room slots
 
   abbrev pub scaled : List Float
-  scaled = scaledOf (c .«max_weight_ratio») ts
+  scaled = scaledFor c ts
 
   -- rmse_vol of the slice that the fit tries, as worked out
   abbrev pub rmse : Float
-  rmse = rmseAt (fitted tau c ks ws scaled) ks ws scaled
+  rmse = rmseAt (sliceFrom tau c (rangeOf ks) (aMaxFor c ws) (searchFor c ks ws ts .found)) ks ws scaled
 
   abbrev pub counts : Counts
-  counts = fitSearch c ks ws scaled .counts
+  counts = searchFor c ks ws ts .counts
 
   abbrev refusal : ℕ → FitAnswer
   refusal = refusalOf tau c ks ws ts room slots
@@ -79,11 +79,11 @@ module _ (tau : Float) (c : FitConfig) (ks ws ts : List Float) (room slots : ℕ
   late : Late decided
   unfolding decidedOf searchEnd bestEnd endOf refusalOf refusedWith acceptedOf rmseHolds
   late =
-      let t = fitted tau c ks ws scaled in
-      cond-ind Late (fitSearch c ks ws scaled .refused) (record { refused = λ h. refl; accepted = λ e. absurd (omega arith) })
-      (cond-ind Late (fitSearch c ks ws scaled .found .«on_edge») (record { refused = λ h. refl; accepted = λ e. absurd (omega arith) })
+      let t = sliceFrom tau c (rangeOf ks) (aMaxFor c ws) (searchFor c ks ws ts .found) in
+      cond-ind Late (searchFor c ks ws ts .refused) (record { refused = λ h. refl; accepted = λ e. absurd (omega arith) })
+      (cond-ind Late (searchFor c ks ws ts .found .«on_edge») (record { refused = λ h. refl; accepted = λ e. absurd (omega arith) })
       (cond-ind Late (eqb (numberOf t) 0)
-      (cond-ind Late (paramsHold c (highestOf ws (c .«a_min»)) (fitSearch c ks ws scaled .found .cell .objective) (sumsOf t ks ws scaled))
+      (cond-ind Late (paramsHold c (aMaxFor c ws) (searchFor c ks ws ts .found .cell .objective) (sumsOf t ks ws scaled))
       (cond-test Late (rmseHolds c rmse)
       (λ e. record { refused = λ h. absurd (h refl); accepted = λ z. both (finite rmse) (le rmse (c .«max_rmse_vol»)) e })
       (λ e. record { refused = λ h. refl; accepted = λ e. absurd (omega arith) }))

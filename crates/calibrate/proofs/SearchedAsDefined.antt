@@ -10,7 +10,6 @@ use lib.Ieee.{Float}
 use borrow.Author.Tests.{eq-eqb, le-leb}
 use Rattle.laws.specs.Floats.{+0}
 use Rattle.laws.proofs.Choices.{cond-ind, cond-test, false-true}
-use Rattle.exponent.specs.Exp.{expOf}
 use Rattle.slice.specs.declared.SviSlice.{SviSlice}
 use Rattle.slice.specs.Slice.{numberOf}
 use Rattle.cell.specs.Cell.{inRange}
@@ -27,10 +26,10 @@ use Rattle.judge.specs.declared.Sums.{Sums}
 use Rattle.entry.specs.Sized.{Sized}
 use Rattle.entry.specs.Entry.{rangeOf, entryNumber}
 use Rattle.records.specs.Answer.{refusedWith}
-use Rattle.calibrate.specs.End.{marksAt, sliceOf, acceptedOf, endOf}
+use Rattle.calibrate.specs.End.{acceptedOf, endOf}
 use Rattle.judge.specs.Judge.{sumsOf, paramsHold, rmseOf, rmseHolds}
-use Rattle.calibrate.specs.Fit.{fitSearch, bestEnd, searchEnd, decidedOf, cappedAs, fitOf}
-use Rattle.calibrate.specs.Searched.{scaledFor, aMaxFor, limitsFor, planFor, searchFor, FromFound, Searched}
+use Rattle.calibrate.specs.Fit.{scaledFor, aMaxFor, limitsFor, planFor, searchFor, activeFrom, sliceFrom, fitSearch, bestEnd, searchEnd, decidedOf, cappedAs, fitOf}
+use Rattle.calibrate.specs.Searched.{FromFound, Searched}
 use Rattle.entry.proofs.Known.{passed, entered}
 
 -- the scaled weights are as many as the observations, in the range of a cell
@@ -44,10 +43,10 @@ module _ (tau : Float) (c : FitConfig) (ks ws ts : List Float) where
   s = searchFor c ks ws ts
 
   abbrev active : List Bool
-  active = marksAt c (aMaxFor c ws) (expOf (s .found .ls)) (s .found .cell)
+  active = activeFrom c (aMaxFor c ws) (s .found)
 
   abbrev slice : SviSlice
-  slice = sliceOf tau (rangeOf ks) active (s .found .cell .x) (s .found .m) (expOf (s .found .ls)) (c .«a_min») (aMaxFor c ws)
+  slice = sliceFrom tau c (rangeOf ks) (aMaxFor c ws) (s .found)
 
   abbrev sums : Sums
   sums = sumsOf slice ks ws (scaledFor c ts)

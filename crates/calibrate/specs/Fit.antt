@@ -1,6 +1,6 @@
 -- The fit: what `fit_slice` answers, and what it leaves in the two lent buffers. Definitions only.
 use mathlib.Core.Path.{_≡_}
-use mathlib.Core.Bool.{cond}
+use mathlib.Core.Bool.{Bool, cond}
 use mathlib.Core.List.{List, [], _∷_, _++_}
 use Prim.Native.Nat.{ℕ}
 use lib.Dec.{eqb}
@@ -54,18 +54,48 @@ unfoldable pub limitsOf : FitConfig → Float → Limits
 limitsOf c «a_max» =
     record { «a_min» = c .«a_min»; «a_max» = «a_max»; «pivot_tolerance» = c .«pivot_tolerance»; «feasibility_tolerance» = c .«feasibility_tolerance» }
 
+-- a_max: the largest observed w, or a_min if that is larger
+abbrev pub aMaxFor : FitConfig → List Float → Float
+aMaxFor c ws = highestOf ws (c .«a_min»)
+
+-- what the fit of observations with these w fixes for all its cells
+abbrev pub limitsFor : FitConfig → List Float → Limits
+limitsFor c ws = limitsOf c (aMaxFor c ws)
+
+-- the search's grid, refinements and max_recentres, which are the settings', and its domain
+abbrev pub planFor : FitConfig → List Float → Plan
+planFor c ks = planOf c (rangeOf ks)
+
 -- the search of observations k, w with the scaled weights t
 unfoldable pub fitSearch : FitConfig → List Float → List Float → List Float → Search
-fitSearch c ks ws ts = searchOf (fitCell ks ws ts (limitsOf c (highestOf ws (c .«a_min»)))) (planOf c (rangeOf ks))
+fitSearch c ks ws ts = searchOf (fitCell ks ws ts (limitsFor c ws)) (planFor c ks)
+
+-- the scaled weights of a fit, and its search with them
+abbrev pub scaledFor : FitConfig → List Float → List Float
+scaledFor c ts = scaledOf (c .«max_weight_ratio») ts
+
+abbrev pub searchFor : FitConfig → List Float → List Float → List Float → Search
+searchFor c ks ws ts = fitSearch c ks ws (scaledFor c ts)
+
+-- ---- at the best point found: sigma, the active set, and the slice
+
+abbrev pub sigmaFrom : Found → Float
+sigmaFrom best = expOf (best .ls)
+
+-- the face's constraints, and any other at its bound
+abbrev pub activeFrom : FitConfig → Float → Found → List Bool
+activeFrom c «a_max» best = marksAt c «a_max» (sigmaFrom best) (best .cell)
+
+-- the face's x at the point (m, sigma) found
+abbrev pub sliceFrom : Float → FitConfig → KRange → Float → Found → SviSlice
+sliceFrom tau c range «a_max» best = sliceOf tau range (activeFrom c «a_max» best) (best .cell .x) (best .m) (sigmaFrom best) (c .«a_min») «a_max»
 
 -- ---- 6 to 9, or an accepted fit, from what the search found
 
 -- the end at the best cell
 unfoldable pub bestEnd : Float → FitConfig → KRange → Float → Found → Counts → List Float → List Float → List Float → FitAnswer
 bestEnd tau c range «a_max» best counts ks ws ts =
-    let sigma = expOf (best .ls) in
-    let active = marksAt c «a_max» sigma (best .cell) in
-    endOf c counts «a_max» (best .cell .objective) active (sliceOf tau range active (best .cell .x) (best .m) sigma (c .«a_min») «a_max») ks ws ts
+    endOf c counts «a_max» (best .cell .objective) (activeFrom c «a_max» best) (sliceFrom tau c range «a_max» best) ks ws ts
 
 -- 6, no qualifying face in some pass; 7, the best point on any edge of its pass's grid
 unfoldable pub searchEnd : Float → FitConfig → KRange → Float → Search → List Float → List Float → List Float → FitAnswer
@@ -76,7 +106,7 @@ searchEnd tau c range «a_max» s ks ws ts =
 
 -- the answer of a fit that passed the entry checks, but for its capped positions
 unfoldable pub decidedOf : Float → FitConfig → List Float → List Float → List Float → FitAnswer
-decidedOf tau c ks ws ts = searchEnd tau c (rangeOf ks) (highestOf ws (c .«a_min»)) (fitSearch c ks ws ts) ks ws ts
+decidedOf tau c ks ws ts = searchEnd tau c (rangeOf ks) (aMaxFor c ws) (fitSearch c ks ws ts) ks ws ts
 
 -- ---- the whole
 
@@ -106,7 +136,7 @@ cappedAs a n =
 unfoldable pub fitOf : Float → FitConfig → List Float → List Float → List Float → ℕ → ℕ → FitAnswer
 fitOf tau c ks ws ts room slots =
     let number = entryNumber tau c ks ws ts room slots in
-    let decided = decidedOf tau c ks ws (scaledOf (c .«max_weight_ratio») ts) in
+    let decided = decidedOf tau c ks ws (scaledFor c ts) in
     unless (eqb number 0) (refusedEarly number (length ks) (c .«min_observations»))
     (unless (eqb (decided .number) 0) decided
     (cappedAs decided (length (cappedOf (c .«max_weight_ratio») ts))))

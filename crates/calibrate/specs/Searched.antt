@@ -4,10 +4,6 @@ use mathlib.Core.Bool.{true, false}
 use mathlib.Core.List.{List}
 use Prim.Native.Nat.{_≤_}
 use lib.Ieee.{Float}
-use Rattle.exponent.specs.Exp.{expOf}
-use Rattle.cell.specs.declared.Limits.{Limits}
-use Rattle.weights.specs.Weights.{scaledOf}
-use Rattle.search.specs.declared.Plan.{Plan}
 use Rattle.records.specs.declared.Counts.{Counts}
 use Rattle.search.specs.declared.Search.{Search}
 use Rattle.search.specs.Promised.{Promised}
@@ -15,31 +11,7 @@ use Rattle.search.specs.Run.{fitCell, fitFace}
 use Rattle.records.specs.declared.FitConfig.{FitConfig}
 use Rattle.records.specs.declared.FitAnswer.{FitAnswer}
 use Rattle.entry.specs.Entry.{rangeOf}
-use Rattle.calibrate.specs.End.{marksAt, sliceOf}
-use Rattle.judge.specs.Judge.{highestOf}
-use Rattle.calibrate.specs.Fit.{planOf, limitsOf, fitSearch}
-
--- ---- the words, for a fit of observations (k, w, weight) in ks, ws, ts with the settings c
-
--- the scaled weights
-abbrev pub scaledFor : FitConfig → List Float → List Float
-scaledFor c ts = scaledOf (c .«max_weight_ratio») ts
-
--- a_max: the largest observed w, or a_min if that is larger
-abbrev pub aMaxFor : FitConfig → List Float → Float
-aMaxFor c ws = highestOf ws (c .«a_min»)
-
--- what the fit fixes for all its cells
-abbrev pub limitsFor : FitConfig → List Float → Limits
-limitsFor c ws = limitsOf c (aMaxFor c ws)
-
--- the search's grid, refinements and max_recentres, which are the settings', and its domain
-abbrev pub planFor : FitConfig → List Float → Plan
-planFor c ks = planOf c (rangeOf ks)
-
--- the search as defined
-abbrev pub searchFor : FitConfig → List Float → List Float → List Float → Search
-searchFor c ks ws ts = fitSearch c ks ws (scaledFor c ts)
+use Rattle.calibrate.specs.Fit.{scaledFor, limitsFor, planFor, aMaxFor, searchFor, activeFrom, sliceFrom}
 
 -- ---- an accepted answer is made from what the search found
 
@@ -50,9 +22,9 @@ pub record FromFound (tau : Float) (c : FitConfig) (ks ws : List Float) (s : Sea
   -- the objective is the chosen face's
   pub objective : a .objective ≡ s .found .cell .objective
   -- the active set: the face's constraints, and any other at its bound
-  pub active : a .active ≡ marksAt c (aMaxFor c ws) (expOf (s .found .ls)) (s .found .cell)
+  pub active : a .active ≡ activeFrom c (aMaxFor c ws) (s .found)
   -- the slice: the face's x at the point (m, sigma) found
-  pub slice : a .slice ≡ sliceOf tau (rangeOf ks) (a .active) (s .found .cell .x) (s .found .m) (expOf (s .found .ls)) (c .«a_min») (aMaxFor c ws)
+  pub slice : a .slice ≡ sliceFrom tau c (rangeOf ks) (aMaxFor c ws) (s .found)
 
 -- ---- the promise, of the answer a
 

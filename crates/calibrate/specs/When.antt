@@ -1,18 +1,15 @@
 -- When a fit is refused: the condition of each of document 01's numbers, and the order in which they are asked. Definitions only.
 -- The conditions of the entry checks (12, 11, 10, 1 to 5) stand in entry/specs/When.antt, those of a slice (8, 9) in judge/specs/When.antt: they speak of no search.
 use mathlib.Core.Path.{_≡_}
-use mathlib.Core.Bool.{Bool, true, false, _&&_, cond}
+use mathlib.Core.Bool.{true, false, _&&_, cond}
 use mathlib.Core.List.{List}
 use Prim.Native.Nat.{ℕ, _+_, _-_, _<_}
 use lib.Dec.{eqb, leb}
 use lib.ListN.{length}
 use lib.Ieee.{Float}
 use Rattle.laws.specs.Floats.{+0}
-use Rattle.exponent.specs.Exp.{expOf}
 use Rattle.slice.specs.declared.SviSlice.{SviSlice}
-use Rattle.weights.specs.Weights.{scaledOf}
 use Rattle.search.specs.declared.Plan.{Plan}
-use Rattle.search.specs.declared.Search.{Search}
 use Rattle.search.specs.Search.{CellFn, cellAt, afterPasses}
 use Rattle.search.specs.Run.{fitCell}
 use Rattle.records.specs.declared.FitConfig.{FitConfig}
@@ -21,40 +18,20 @@ use Rattle.entry.specs.When.{Some, EntryFails}
 use Rattle.judge.specs.When.{rmseAt, OutOfDomain, RmseAboveMax}
 use Rattle.entry.specs.Entry.{rangeOf}
 use Rattle.records.specs.Answer.{noCounts, refusedWith}
-use Rattle.calibrate.specs.End.{marksAt, sliceOf}
-use Rattle.judge.specs.Judge.{highestOf}
-use Rattle.calibrate.specs.Fit.{planOf, limitsOf, fitSearch}
+use Rattle.calibrate.specs.Fit.{aMaxFor, limitsFor, planFor, fitSearch, scaledFor, searchFor, sliceFrom}
 
 -- ---- the search, for scaled weights ts
 
 -- 6: some pass made has no cell with a qualifying face, which is what a cell's `some` says. Pass q is made in the window of the state after q passes
 abbrev pub FacelessPass : FitConfig → List Float → List Float → List Float → Type 0
 FacelessPass c ks ws ts =
-    let f : CellFn = fitCell ks ws ts (limitsOf c (highestOf ws (c .«a_min»))) in
-    let p : Plan = planOf c (rangeOf ks) in
+    let f : CellFn = fitCell ks ws ts (limitsFor c ws) in
+    let p : Plan = planFor c ks in
     Some (fitSearch c ks ws ts .counts .passes) (λ q. (i j : ℕ) → i < c .grid → j < c .grid → cellAt f (afterPasses f p q .window) (c .grid) i j .some ≡ false)
 
 -- 7: the best point stands on an edge of its pass's grid
 abbrev pub OnEdge : FitConfig → List Float → List Float → List Float → Type 0
 OnEdge c ks ws ts = fitSearch c ks ws ts .found .«on_edge» ≡ true
-
--- ---- the slice of the fit, for scaled weights ts: the best point of the search, the active set there, and the parameters from it
-
-module _ (tau : Float) (c : FitConfig) (ks ws ts : List Float) where
-  abbrev pub found : Search
-  found = fitSearch c ks ws ts
-
-  abbrev pub aMax : Float
-  aMax = highestOf ws (c .«a_min»)
-
-  abbrev pub sigma : Float
-  sigma = expOf (found .found .ls)
-
-  abbrev pub active : List Bool
-  active = marksAt c aMax sigma (found .found .cell)
-
-  abbrev pub fitted : SviSlice
-  fitted = sliceOf tau (rangeOf ks) active (found .found .cell .x) (found .found .m) sigma (c .«a_min») aMax
 
 -- ---- the fit
 
@@ -63,20 +40,17 @@ abbrev pub turn : ℕ → ℕ
 turn n = cond (leb 10 n) (12 - n) (n + 2)
 
 module _ (tau : Float) (c : FitConfig) (ks ws ts : List Float) (room slots : ℕ) where
-  abbrev pub scaled : List Float
-  scaled = scaledOf (c .«max_weight_ratio») ts
-
   -- the slice that the fit tries
   abbrev pub tried : SviSlice
-  tried = fitted tau c ks ws scaled
+  tried = sliceFrom tau c (rangeOf ks) (aMaxFor c ws) (searchFor c ks ws ts .found)
 
   -- the condition of refusal n holds
   pub data Fails (n : ℕ) : Type 0 where
     at-entry : EntryFails tau c ks ws ts room slots n → Fails n
-    no-face : n ≡ 6 → FacelessPass c ks ws scaled → Fails n
-    on-edge : n ≡ 7 → OnEdge c ks ws scaled → Fails n
-    out-of-domain : n ≡ 8 → OutOfDomain c tried ks ws scaled (highestOf ws (c .«a_min»)) (fitSearch c ks ws scaled .found .cell .objective) → Fails n
-    rmse-high : n ≡ 9 → RmseAboveMax c tried ks ws scaled → Fails n
+    no-face : n ≡ 6 → FacelessPass c ks ws (scaledFor c ts) → Fails n
+    on-edge : n ≡ 7 → OnEdge c ks ws (scaledFor c ts) → Fails n
+    out-of-domain : n ≡ 8 → OutOfDomain c tried ks ws (scaledFor c ts) (aMaxFor c ws) (searchFor c ks ws ts .found .cell .objective) → Fails n
+    rmse-high : n ≡ 9 → RmseAboveMax c tried ks ws (scaledFor c ts) → Fails n
 
   -- none of the conditions asked before n's holds
   abbrev pub NoneBefore : ℕ → Type 0
@@ -86,5 +60,5 @@ module _ (tau : Float) (c : FitConfig) (ks ws ts : List Float) (room slots : ℕ
   unfoldable pub refusalOf : ℕ → FitAnswer
   refusalOf n =
       refusedWith n (cond (eqb n 3) (length ks) 0) (cond (eqb n 3) (c .«min_observations») 0)
-      (cond (eqb n 9) (rmseAt tried ks ws scaled) +0) (cond (eqb n 9) (c .«max_rmse_vol») +0)
-      (cond (leb 6 n && leb n 9) (fitSearch c ks ws scaled .counts) noCounts)
+      (cond (eqb n 9) (rmseAt tried ks ws (scaledFor c ts)) +0) (cond (eqb n 9) (c .«max_rmse_vol») +0)
+      (cond (leb 6 n && leb n 9) (searchFor c ks ws ts .counts) noCounts)
