@@ -13,7 +13,7 @@ use Rattle.laws.specs.Choice.{unless}
 use Rattle.laws.specs.Floats.{_+f_, _*f_, at, finite, positive}
 use Rattle.laws.proofs.Choices.{if-true, cond-ind, both}
 use Rattle.laws.proofs.Loops.{for-keeps, for-same}
-use Rattle.solver.specs.Solve.{scaleOf, scaledOf, underOf, solveOf}
+use Rattle.solver.specs.Solve.{scaleOf, solvedAtScale, underOf, solveOf}
 use Rattle.solver.specs.declared.Solved.{Solved}
 use Rattle.faces.specs.declared.Face.{Face}
 use Rattle.cell.specs.declared.Model.{Model}
@@ -27,10 +27,10 @@ use Rattle.polytope.specs.Polytope.{rowsOf, boundsOf, spreadOf, feasibleOf}
 use Rattle.laws.specs.Room.{filledOn}
 use Rattle.laws.proofs.Rooms.{filled-at, filled-length}
 use Rattle.roots.specs.Hypot.{withOneOf}
-use Rattle.cell.specs.Least.{yOf, hOf, addedTo, normalOf, restOf, objectiveOf}
+use Rattle.cell.specs.Least.{yOf, hOf, withObservation, normalEquations, missOf, objectiveOf}
 use Rattle.cell.specs.Cell.{Problem, kktOf, solutionOf, widened, noTry, valuedOf, metOf, triedOf, tryOf, pickOf, bestOf, chosenOf, problemOf, posedOf, fitModel, cellOf, inRange, noCell, innerOf}
 use Rattle.cell.specs.Lent.{ysOn, hsOn, innerOn}
-use Rattle.cell.specs.Shared.{doubledOf, blockOf, problemIn, emptyScale, Scaled, answerOf}
+use Rattle.cell.specs.Shared.{doubledOf, blockOf, problemIn, emptyScale, Scaled, systemAnswer}
 
 -- ---- the rows of the observations, computed once
 
@@ -40,14 +40,14 @@ lengths-in-range ys n hs before l e = rw (le-leb n 256 l) at e
 
 -- a cell asks of y and h only at the observations
 module _ (y z h g : ℕ → Float) (ws ts : List Float) (ys : (i : ℕ) → i < length ws → y i ≡ z i) (hs : (i : ℕ) → i < length ws → h i ≡ g i) where
-  normal-same : normalOf y h ws ts ≡ normalOf z g ws ts
-  unfolding normalOf
-  normal-same = for-same _ _ (length ws) (λ i l s. ap₂ (λ (a b : Float). addedTo s (at ts i) a b (at ws i)) (ys i l) (hs i l)) _
+  normal-same : normalEquations y h ws ts ≡ normalEquations z g ws ts
+  unfolding normalEquations
+  normal-same = for-same _ _ (length ws) (λ i l s. ap₂ (λ (a b : Float). withObservation s (at ts i) a b (at ws i)) (ys i l) (hs i l)) _
 
   objective-same : (x : List Float) → objectiveOf y h ws ts x ≡ objectiveOf z g ws ts x
   unfolding objectiveOf
   objective-same x =
-      for-same _ _ (length ws) (λ i l s. ap₂ (λ (a b : Float). s +f at ts i *f restOf x a b (at ws i) *f restOf x a b (at ws i)) (ys i l) (hs i l)) _
+      for-same _ _ (length ws) (λ i l s. ap₂ (λ (a b : Float). s +f at ts i *f missOf x a b (at ws i) *f missOf x a b (at ws i)) (ys i l) (hs i l)) _
 
   pub posed-same : (k : Model) (l : Limits) (sigma : Float) → posedOf k y h ws ts l sigma ≡ posedOf k z g ws ts l sigma
   unfolding posedOf
@@ -77,18 +77,18 @@ module _ (o : List Float → Float) (b g h : List Float) (pivot scale slack : Fl
   small : leb (3 + f .size) 6 ≡ true
   small = le-leb (3 + f .size) 6 (omega arith)
 
-  try-under : positive scale ≡ true → tryOf o (problemIn b g h pivot slack) f ≡ triedOf o (problemIn b g h (pivot *f scale) slack) f (answerOf b g h (pivot *f scale) f)
-  unfolding tryOf triedOf metOf solutionOf solveOf scaledOf underOf
+  try-under : positive scale ≡ true → tryOf o (problemIn b g h pivot slack) f ≡ triedOf o (problemIn b g h (pivot *f scale) slack) f (systemAnswer b g h (pivot *f scale) f)
+  unfolding tryOf triedOf metOf solutionOf solveOf solvedAtScale underOf
   try-under p = rw (some, small, e, p) refl
 
   -- r is the candidate under that limit
   pub try-at :
-      positive scale ≡ true → (r : Point) → triedOf o (problemIn b g h (pivot *f scale) slack) f (answerOf b g h (pivot *f scale) f) ≡ unless (r .ok) noTry (valuedOf f (r .x) (o (r .x)))
+      positive scale ≡ true → (r : Point) → triedOf o (problemIn b g h (pivot *f scale) slack) f (systemAnswer b g h (pivot *f scale) f) ≡ unless (r .ok) noTry (valuedOf f (r .x) (o (r .x)))
       → unless (r .ok) noTry (valuedOf f (r .x) (o (r .x))) ≡ tryOf o (problemIn b g h pivot slack) f
   try-at p r k = sym k ∙ sym (try-under p)
 
   pub try-none : positive scale ≡ false → tryOf o (problemIn b g h pivot slack) f ≡ noTry
-  unfolding tryOf triedOf metOf solutionOf solveOf scaledOf
+  unfolding tryOf triedOf metOf solutionOf solveOf solvedAtScale
   try-none p = rw (small, e, p) refl
 
 -- the empty face has no more than the block, and what every other face has it has as well where it is known by other names

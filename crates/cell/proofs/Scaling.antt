@@ -19,35 +19,29 @@ use Rattle.laws.proofs.Choices.{false-true, cond-ind, cond-test}
 use Rattle.laws.proofs.Loops.{for-ind, for-keeps, below-next}
 use Rattle.laws.proofs.Order.{lt-le-trans, lt-not-self, lt→le}
 use Rattle.solver.specs.Solve.{entry, rowScaleOf, scaleOf}
-use Rattle.solver.proofs.Steps.{larger, larger-max, larger-step, step-sized, abs-above, not-lt-trans}
-use Rattle.solver.proofs.Steps as steps
+use Rattle.solver.specs.Rows.{NotBelowZero}
+use Rattle.solver.proofs.Steps.{larger, larger-max, larger-step, step-not-below, abs-above, not-lt-trans}
 use Rattle.faces.specs.declared.Face.{Face}
 use Rattle.cell.specs.declared.Normal.{Normal}
 use Rattle.cell.specs.Cell.{slotOf, kktOf}
 use Rattle.faces.specs.Faces.{memberOf, faceAt}
 use Rattle.faces.specs.Next.{Good}
 use Rattle.polytope.specs.Polytope.{rowsOf}
-use Rattle.cell.specs.Shared.{Sized, doubledOf, linesOf, blockOf, lineScale, emptyScale, otherScale, Scaled}
+use Rattle.cell.specs.Shared.{doubledOf, linesOf, blockOf, lineScale, emptyScale, otherScale, Scaled}
 use Rattle.faces.proofs.Orders.{fit-order, face-some}
 
 -- ---- the code's steps
 
--- where the code begins
-pub zero-sized : Sized +0
-zero-sized = record { number = steps.zero-sized .number; above = steps.zero-sized .above }
-
--- one entry: the code's step is the definition's, and keeps the number sized
-step-is : {a u r : Float} (x : Float) → Sized a → u ≡ unsignedOf x → r ≡ larger a u → (r ≡ maxOf a (absOf x)) × Sized r
+-- one entry: the code's step is the definition's, and keeps the number not below zero
+step-is : {a u r : Float} (x : Float) → NotBelowZero a → u ≡ unsignedOf x → r ≡ larger a u → (r ≡ maxOf a (absOf x)) × NotBelowZero r
 step-is {a} {u} {r} x s d e =
-    let w : steps.Sized a = record { number = s .number; above = s .above } in
-    let h = e ∙ ap (larger a) d ∙ larger-step a x w in
-    let t = step-sized a x w in
-    (h, subst Sized (sym h) (record { number = t .number; above = t .above }))
+    let h = e ∙ ap (larger a) d ∙ larger-step a x s in
+    (h, subst NotBelowZero (sym h) (step-not-below a x s))
 
 -- three entries
 pub line-is :
-    {a u v w p q r : Float} (x y z : Float) → Sized a → u ≡ unsignedOf x → p ≡ larger a u → v ≡ unsignedOf y → q ≡ larger p v → w ≡ unsignedOf z → r ≡ larger q w
-    → (r ≡ lineScale a x y z) × Sized r
+    {a u v w p q r : Float} (x y z : Float) → NotBelowZero a → u ≡ unsignedOf x → p ≡ larger a u → v ≡ unsignedOf y → q ≡ larger p v → w ≡ unsignedOf z → r ≡ larger q w
+    → (r ≡ lineScale a x y z) × NotBelowZero r
 line-is x y z s d e f g h k =
     let i = step-is x s d e in
     let j = step-is y (i .1) f g in
@@ -160,7 +154,7 @@ module _ (a x : Float) (s : Scale a) where
   step-scale : T (fits binary64 x) → Scale (maxOf a (absOf x))
   step-scale f =
       record {
-        number = step-sized a x (record { number = s .number; above = scale-above s }) .number;
+        number = step-not-below a x (record { number = s .number; above = scale-above s }) .number;
         clear = step-ind (λ (r : Float). absOf r ≡ r) (s .clear) (λ l. abs-abs x);
         fit = step-ind (λ (r : Float). T (fits binary64 r)) (s .fit) (λ l. abs-fits x f);
       }

@@ -11,7 +11,7 @@ use Rattle.solver.specs.declared.Solved.{Solved}
 use Rattle.faces.specs.declared.Face.{Face}
 use Rattle.faces.specs.Faces.{memberOf}
 use Rattle.cell.specs.Cell.{slotOf, kktOf, rhsOf}
-use Rattle.cell.specs.Shared.{blockOf, sideOf, answerOf}
+use Rattle.cell.specs.Shared.{blockOf, sideOf, systemAnswer}
 
 -- the matrix
 module _ (base g : List Float) (f : Face) where
@@ -60,6 +60,6 @@ module _ (right h : List Float) (f : Face) where
 -- the answer of a face of k constraints, from its system
 pub answers :
     (b g h : List Float) (limit : Float) (f : Face) (k : ℕ) {m t : List Float} {r : Solved} → f .size ≡ k → m ≡ kktOf (blockOf b) g 3 f → t ≡ rhsOf (sideOf b) h 3 f
-    → r ≡ underOf (3 + k) m t limit → r ≡ answerOf b g h limit f
+    → r ≡ underOf (3 + k) m t limit → r ≡ systemAnswer b g h limit f
 answers b g h limit f k e p q s =
     s ∙ ap₂ (λ (m t : List Float). underOf (3 + k) m t limit) p q ∙ ap (λ (k : ℕ). underOf (3 + k) (kktOf (blockOf b) g 3 f) (rhsOf (sideOf b) h 3 f) limit) (sym e)

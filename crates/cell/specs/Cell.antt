@@ -17,9 +17,9 @@ use Rattle.cell.specs.declared.Limits.{Limits}
 use Rattle.cell.specs.declared.Normal.{Normal}
 use Rattle.cell.specs.declared.Tried.{Tried}
 use Rattle.cell.specs.declared.Cell.{Cell}
-use Rattle.faces.specs.Faces.{memberOf, faceAt, marksOf}
+use Rattle.faces.specs.Faces.{memberOf, faceAt, faceMarks}
 use Rattle.polytope.specs.Polytope.{rowsOf, boundsOf, spreadOf, feasibleOf}
-use Rattle.cell.specs.Least.{yOf, hOf, normalOf, baseOf, rightOf, objectiveOf}
+use Rattle.cell.specs.Least.{yOf, hOf, normalEquations, baseOf, rightOf, objectiveOf}
 
 -- the problem of a cell: u unknowns; n constraints g x <= h; the KKT system of the empty face; the solver's tolerance; the slack
 pub record Problem : Type 0 where
@@ -85,7 +85,7 @@ unfoldable pub bestOf : (List Float → Float) → Problem → ℕ → Tried
 bestOf o p count = for 0 count (λ t best. pickOf (tryOf o p (faceAt (p .u) (p .n) t)) best) noTry
 
 unfoldable pub cellFrom : Tried → ℕ → Cell
-cellFrom t faces = record { some = t .some; objective = t .objective; x = t .x; active = marksOf (t .face); faces = faces }
+cellFrom t faces = record { some = t .some; objective = t .objective; x = t .x; active = faceMarks (t .face); faces = faces }
 
 -- where the empty face, tried with the answer e, qualifies, only it is tried
 unfoldable pub chosenFrom : (List Float → Float) → Problem → ℕ → Tried → Cell
@@ -107,7 +107,7 @@ problemOf k n sigma l =
     problem (k .u) (k .n) (baseOf n) (rightOf n) rowsOf h (l .«pivot_tolerance») (l .«feasibility_tolerance» *f spreadOf h)
 
 unfoldable pub posedOf : Model → (ℕ → Float) → (ℕ → Float) → List Float → List Float → Limits → Float → Cell
-posedOf k y h ws ts l sigma = chosenOf (objectiveOf y h ws ts) (problemOf k (normalOf y h ws ts) sigma l) (k .faces)
+posedOf k y h ws ts l sigma = chosenOf (objectiveOf y h ws ts) (problemOf k (normalEquations y h ws ts) sigma l) (k .faces)
 
 -- the cell (m, sigma) of a model, over as many k, w and weights t
 unfoldable pub cellOf : Model → List Float → List Float → List Float → Limits → Float → Float → Cell

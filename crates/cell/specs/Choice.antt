@@ -9,7 +9,7 @@ use Rattle.cell.specs.declared.Limits.{Limits}
 use Rattle.cell.specs.declared.Tried.{Tried}
 use Rattle.cell.specs.declared.Cell.{Cell}
 use Rattle.faces.specs.Faces.{faceAt}
-use Rattle.cell.specs.Least.{yOf, hOf, normalOf, objectiveOf}
+use Rattle.cell.specs.Least.{yOf, hOf, normalEquations, objectiveOf}
 use Rattle.cell.specs.Cell.{Problem, tryOf, cellFrom, problemOf}
 
 -- the objective of the cell (m, sigma), over observations k, w and weights t
@@ -18,7 +18,7 @@ goalAt ks ws ts m sigma = objectiveOf (yOf ks m sigma) (λ i. hOf (yOf ks m sigm
 
 -- its problem, in a model
 abbrev pub problemAt : Model → List Float → List Float → List Float → Limits → Float → Float → Problem
-problemAt k ks ws ts l m sigma = problemOf k (normalOf (yOf ks m sigma) (λ i. hOf (yOf ks m sigma i)) ws ts) sigma l
+problemAt k ks ws ts l m sigma = problemOf k (normalEquations (yOf ks m sigma) (λ i. hOf (yOf ks m sigma i)) ws ts) sigma l
 
 -- face t of it, tried: whether it qualifies (`some`), its objective and its x
 unfoldable pub faceTried : Model → List Float → List Float → List Float → Limits → Float → Float → ℕ → Tried

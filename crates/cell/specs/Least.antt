@@ -24,15 +24,15 @@ unfoldable pub lineOf : Line → Float → Float → Float → Float → Line
 lineOf l s y h w = record { lin = l .lin +f s *f w; q0 = l .q0 +f s *f one; q1 = l .q1 +f s *f y; q2 = l .q2 +f s *f h }
 
 -- an observation of weight t added
-unfoldable pub addedTo : Normal → Float → Float → Float → Float → Normal
-addedTo n t y h w = record { a = lineOf (n .a) (t *f one) y h w; d = lineOf (n .d) (t *f y) y h w; c = lineOf (n .c) (t *f h) y h w }
+unfoldable pub withObservation : Normal → Float → Float → Float → Float → Normal
+withObservation n t y h w = record { a = lineOf (n .a) (t *f one) y h w; d = lineOf (n .d) (t *f y) y h w; c = lineOf (n .c) (t *f h) y h w }
 
 abbrev pub noLine : Line
 noLine = record { lin = +0; q0 = +0; q1 = +0; q2 = +0 }
 
 -- over the observations in turn
-unfoldable pub normalOf : (ℕ → Float) → (ℕ → Float) → List Float → List Float → Normal
-normalOf y h ws ts = for 0 (length ws) (λ i s. addedTo s (at ts i) (y i) (h i) (at ws i)) (record { a = noLine; d = noLine; c = noLine })
+unfoldable pub normalEquations : (ℕ → Float) → (ℕ → Float) → List Float → List Float → Normal
+normalEquations y h ws ts = for 0 (length ws) (λ i s. withObservation s (at ts i) (y i) (h i) (at ws i)) (record { a = noLine; d = noLine; c = noLine })
 
 -- twice q in the corner of the 6 by 6 matrix of the empty face
 abbrev pub baseOf : Normal → List Float
@@ -47,12 +47,12 @@ rightOf n = two *f n .a .lin ∷ two *f n .d .lin ∷ two *f n .c .lin ∷ +0 �
 
 -- ---- the objective, summed directly
 
-abbrev pub restOf : List Float → Float → Float → Float → Float
-restOf x y h w = at x 0 +f at x 1 *f y +f at x 2 *f h -f w
+abbrev pub missOf : List Float → Float → Float → Float → Float
+missOf x y h w = at x 0 +f at x 1 *f y +f at x 2 *f h -f w
 
 unfoldable pub objectiveOf : (ℕ → Float) → (ℕ → Float) → List Float → List Float → List Float → Float
 objectiveOf y h ws ts x =
-    for 0 (length ws) (λ i acc. acc +f at ts i *f restOf x (y i) (h i) (at ws i) *f restOf x (y i) (h i) (at ws i)) +0
+    for 0 (length ws) (λ i acc. acc +f at ts i *f missOf x (y i) (h i) (at ws i) *f missOf x (y i) (h i) (at ws i)) +0
 
 -- the same with the rows read from two lists
 abbrev pub objectiveAt : List Float → List Float → List Float → List Float → List Float → Float

@@ -1,10 +1,10 @@
 -- What the code works out once for the systems of all faces of a cell. No reader has to believe this: no public contract cites it, and proofs/Laws and proofs/Scaling show that the answers are those of Cell. Definitions only.
 use mathlib.Core.Path.{_≡_}
-use mathlib.Core.Bool.{false, cond}
+use mathlib.Core.Bool.{cond}
 use mathlib.Core.List.{List, [], _∷_}
 use Prim.Native.Nat.{ℕ, _+_, _<_}
 use lib.ListN.{replicate}
-use lib.Ieee.{Float, lt, isNan}
+use lib.Ieee.{Float, lt}
 use Rattle.laws.specs.Floats.{_*f_, +0, one, two, at, absOf, maxOf}
 use Rattle.solver.specs.Solve.{scaleOf, underOf}
 use Rattle.solver.specs.declared.Solved.{Solved}
@@ -46,11 +46,6 @@ problemIn b g h pivot slack = problem 3 7 (blockOf b) (sideOf b) g h pivot slack
 
 -- ---- the scales
 
--- a number that is not below zero
-pub record Sized (a : Float) : Type 0 where
-  pub number : isNan a ≡ false
-  pub above : lt a +0 ≡ false
-
 -- the largest magnitude of three entries, and at least acc
 abbrev pub lineScale : Float → Float → Float → Float → Float
 lineScale acc x y z = maxOf (maxOf (maxOf acc (absOf x)) (absOf y)) (absOf z)
@@ -68,5 +63,5 @@ Scaled b scale = (t : ℕ) → 0 < t → t < 64 → scaleOf (3 + faceAt 3 7 t .s
 
 -- ---- the answer of a face's system under a limit of its pivots
 
-abbrev pub answerOf : List Float → List Float → List Float → Float → Face → Solved
-answerOf b g h limit f = underOf (3 + f .size) (kktOf (blockOf b) g 3 f) (rhsOf (sideOf b) h 3 f) limit
+abbrev pub systemAnswer : List Float → List Float → List Float → Float → Face → Solved
+systemAnswer b g h limit f = underOf (3 + f .size) (kktOf (blockOf b) g 3 f) (rhsOf (sideOf b) h 3 f) limit

@@ -4,7 +4,7 @@ ghost use Prim.Native.Nat.{_≤_, _<_};
 ghost use lib.ListN.{length};
 ghost use Rattle.laws.specs.Floats.{at};
 ghost use Rattle.laws.specs.Room.{filledOn};
-ghost use Rattle.cell.specs.Least.{yOf, lineOf, addedTo, normalOf, objectiveOf};
+ghost use Rattle.cell.specs.Least.{yOf, lineOf, withObservation, normalEquations, objectiveOf};
 ghost use Rattle.cell.specs.Shared.{doubledOf, lineAt, linesOf};
 use crate::Line;
 use crate::Normal;
@@ -31,7 +31,7 @@ fn line_plus(l: Line, s: f64, y: f64, h: f64, w: f64) -> Line
 }
 
 fn added(n: Normal, t: f64, y: f64, h: f64, w: f64) -> Normal
-    ensures { λ r. ⌜ r ≡ addedTo n t y h w ⌝ }
+    ensures { λ r. ⌜ r ≡ withObservation n t y h w ⌝ }
 {
     let a = line_plus(n.a, t * 1.0, y, h, w);
     let d = line_plus(n.d, t * y, y, h, w);
@@ -42,7 +42,7 @@ fn added(n: Normal, t: f64, y: f64, h: f64, w: f64) -> Normal
 // The normal equations.
 pub(crate) fn normal_sum(ys: &[f64; 256], hs: &[f64; 256], ws: &[f64], ts: &[f64]) -> Normal
     requires { ⌜ (length (now ws) ≤ 256) × (length (now ts) ≡ length (now ws)) ⌝ }
-    ensures { λ r. ⌜ r ≡ normalOf (at (now (ys .entry))) (at (now (hs .entry))) (now (ws .entry)) (now (ts .entry)) ⌝ }
+    ensures { λ r. ⌜ r ≡ normalEquations (at (now (ys .entry))) (at (now (hs .entry))) (now (ws .entry)) (now (ts .entry)) ⌝ }
 {
     let z = Line {
         lin: 0.0,

@@ -1,9 +1,8 @@
 // The scales of a cell's systems, each worked out once: that of the empty face is the largest magnitude of the block; every other face has a constraint with an entry of magnitude 1, and none of more.
 ghost use mathlib.Core.Path.{_≡_};
-ghost use mathlib.Core.Bool.{cond};
-ghost use lib.Ieee.{lt};
 ghost use Rattle.laws.specs.Floats.{positive};
-ghost use Rattle.cell.specs.Shared.{Sized, lineScale, emptyScale};
+ghost use Rattle.solver.specs.Rows.{NotBelowZero};
+ghost use Rattle.cell.specs.Shared.{lineScale, emptyScale};
 
 // Whether a system of this scale is solved at all.
 pub(crate) fn positive(scale: f64) -> bool
@@ -12,21 +11,14 @@ pub(crate) fn positive(scale: f64) -> bool
     bits::is_finite(scale) & (scale > 0.0)
 }
 
-// Rust's max where a is no NaN: one test less.
-fn larger(a: f64, b: f64) -> f64
-    ensures { λ r. ⌜ r ≡ cond (lt a b) b a ⌝ }
-{
-    bits::pick(a < b, b, a)
-}
-
 // The largest of acc and three magnitudes. A -0 is not above +0, so its sign may stay.
 fn line_scale(acc: f64, x: f64, y: f64, z: f64) -> f64
-    requires { ⌜ Sized acc ⌝ }
-    ensures { λ r. ⌜ (r ≡ lineScale acc x y z) × Sized r ⌝ }
+    requires { ⌜ NotBelowZero acc ⌝ }
+    ensures { λ r. ⌜ (r ≡ lineScale acc x y z) × NotBelowZero r ⌝ }
 {
-    let a = larger(acc, bits::unsigned(x));
-    let b = larger(a, bits::unsigned(y));
-    larger(b, bits::unsigned(z))
+    let a = bits::larger(acc, bits::unsigned(x));
+    let b = bits::larger(a, bits::unsigned(y));
+    bits::larger(b, bits::unsigned(z))
 }
 
 // The scale of the empty face.

@@ -8,7 +8,7 @@ ghost use Rattle.laws.specs.Choice.{unless};
 ghost use Rattle.faces.specs.Next.{Good};
 ghost use Rattle.polytope.specs.Polytope.{rowsOf};
 ghost use Rattle.cell.specs.Cell.{slotOf, kktOf, rhsOf, noTry, valuedOf, triedOf, pickOf};
-ghost use Rattle.cell.specs.Shared.{blockOf, sideOf, problemIn, answerOf};
+ghost use Rattle.cell.specs.Shared.{blockOf, sideOf, problemIn, systemAnswer};
 use crate::Point;
 use crate::Tried;
 use faces::Face;
@@ -111,7 +111,7 @@ fn right(b: &[f64; 12], h: &[f64; 7], f: Face) -> [f64; 6]
 // The answer of a face's system. Each size has a call of its own, so that the compiler knows every place.
 fn solution(b: &[f64; 12], g: &[f64; 21], h: &[f64; 7], limit: f64, f: Face) -> Solved
     requires { ⌜ Good 3 7 f ⌝ }
-    ensures { λ r. ⌜ r ≡ answerOf (now (b .entry)) (now (g .entry)) (now (h .entry)) limit f ⌝ }
+    ensures { λ r. ⌜ r ≡ systemAnswer (now (b .entry)) (now (g .entry)) (now (h .entry)) limit f ⌝ }
 {
     let m = kkt(b, g, f);
     let rhs = right(b, h, f);
@@ -137,7 +137,7 @@ pub(crate) fn candidate(
     f: Face,
 ) -> Point
     requires { ⌜ Good 3 7 f × (now g ≡ rowsOf) ⌝ }
-    ensures { λ r. ⌜ ((o : List Float → Float) → triedOf o (problemIn (now (b .entry)) (now (g .entry)) (now (h .entry)) limit slack) f (answerOf (now (b .entry)) (now (g .entry)) (now (h .entry)) limit f) ≡ unless (r .ok) noTry (valuedOf f (r .x) (o (r .x)))) ⌝ }
+    ensures { λ r. ⌜ ((o : List Float → Float) → triedOf o (problemIn (now (b .entry)) (now (g .entry)) (now (h .entry)) limit slack) f (systemAnswer (now (b .entry)) (now (g .entry)) (now (h .entry)) limit f) ≡ unless (r .ok) noTry (valuedOf f (r .x) (o (r .x)))) ⌝ }
 {
     let s = solution(b, g, h, limit, f);
     if s.ok {

@@ -17,7 +17,7 @@ use Rattle.diagnostics.specs.declared.report.DiagnosticsConfig.{Diagnost
 use Rattle.diagnostics.specs.declared.report.SurfaceDiagnostics.{SurfaceDiagnostics}
 use Rattle.diagnostics.specs.declared.report.Diagnosed.the-variants.{Done}
 use Rattle.diagnostics.specs.Tally.{oneMore, recordedOf}
-use Rattle.diagnostics.specs.Walk.{State, goodOf, failedOf, visitOf, freshOf, startOf, walkOf}
+use Rattle.diagnostics.specs.Walk.{State, goodOf, failedOf, visitOf, freshOf, walkStart, walkOf}
 use Rattle.diagnostics.specs.OnGrid.{butterflyAt, failureOf, seenBy}
 use Rattle.diagnostics.specs.Diagnostics.{reportOf, diagnoseOf}
 use Rattle.diagnostics.proofs.Walking.{walk-on, Accepted, accepted}
@@ -46,7 +46,7 @@ module _ (run : Run) (policy : ShortExpiryPolicy) (ks taus : List Float) (tol : 
   a = accepted run policy ks taus tol room d done
 
   tallied : Tallied (length ks * length taus) (walkOf (seenBy run policy) tol ks taus room .walk)
-  unfolding startOf freshOf
+  unfolding walkStart freshOf
   tallied =
       let few = a .few in
       walk-on (seenBy run policy) tol (λ k tau. failureOf k tau (seenBy run policy k tau)) (λ (m : ℕ) (l : List Float) (st : State). Tallied m (st .walk)) ks taus

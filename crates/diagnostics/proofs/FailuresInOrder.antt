@@ -15,7 +15,7 @@ use Rattle.diagnostics.specs.declared.points.Seen.the-variants.{Good, Fa
 use Rattle.diagnostics.specs.declared.report.DiagnosticsConfig.{DiagnosticsConfig}
 use Rattle.diagnostics.specs.declared.report.SurfaceDiagnostics.{SurfaceDiagnostics}
 use Rattle.diagnostics.specs.declared.report.Diagnosed.the-variants.{Done}
-use Rattle.diagnostics.specs.Walk.{State, goodOf, failedOf, failureAt, visitOf, freshOf, startOf, walkOf}
+use Rattle.diagnostics.specs.Walk.{State, goodOf, failedOf, failureAt, visitOf, freshOf, walkStart, walkOf}
 use Rattle.diagnostics.specs.OnGrid.{failureOf, failuresOn, seenBy}
 use Rattle.diagnostics.specs.Diagnostics.{reportOf, diagnoseOf}
 use Rattle.diagnostics.proofs.Walking.{walk-on, Accepted, accepted}
@@ -67,7 +67,7 @@ module _ (run : Run) (policy : ShortExpiryPolicy) (ks taus : List Float) (tol : 
   a = accepted run policy ks taus tol room d done
 
   put : Put (failuresOn (seenBy run policy) ks taus) room (walkOf (seenBy run policy) tol ks taus room)
-  unfolding startOf freshOf
+  unfolding walkStart freshOf
   put =
       let enough = a .enough in
       walk-on (seenBy run policy) tol (λ k tau. failureOf k tau (seenBy run policy k tau)) (λ (m : ℕ) (l : List Float) (st : State). Put l room st × (st .walk .failed ≤ m)) ks taus

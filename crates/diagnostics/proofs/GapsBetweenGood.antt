@@ -14,7 +14,7 @@ use Rattle.diagnostics.specs.declared.report.DiagnosticsConfig.{Diagnost
 use Rattle.diagnostics.specs.declared.report.SurfaceDiagnostics.{SurfaceDiagnostics}
 use Rattle.diagnostics.specs.declared.report.Diagnosed.the-variants.{Done}
 use Rattle.diagnostics.specs.Recorded.{recordedAll, tallyOf}
-use Rattle.diagnostics.specs.Walk.{State, standing, gapOf, goodOf, failedOf, noPrevious, visitOf, freshOf, startOf, rowOf, walkOf, PointFn}
+use Rattle.diagnostics.specs.Walk.{State, walkIn, gapOf, goodOf, failedOf, noPrevious, visitOf, freshOf, walkStart, tausAt, walkOf, PointFn}
 use Rattle.diagnostics.specs.OnGrid.{gapBetween, pairsFrom, overPairs, gapsOn, seenBy}
 use Rattle.diagnostics.specs.Diagnostics.{reportOf, diagnoseOf}
 use Rattle.diagnostics.proofs.Walking.{each, visitTurn, row-is, walk-is, accepted}
@@ -65,21 +65,21 @@ module _ (f : PointFn) (tol : DiagnosticsConfig) where
       pairs-on k x xs (visitTurn f tol k x st) (visit-previous st (f k x) k x tol)
       ∙ ap (λ (c : Check). recordedAll c (pairsFrom (pair k) x xs) t) (visit-first st (f k x) k x tol e)
 
-  row-gaps : (axis : List Float) (k : Float) (st : State) → rowOf f tol axis k st .walk .gap ≡ recordedAll (st .walk .gap) (overPairs (pair k) axis) t
+  row-gaps : (axis : List Float) (k : Float) (st : State) → tausAt f tol axis k st .walk .gap ≡ recordedAll (st .walk .gap) (overPairs (pair k) axis) t
   unfolding freshOf
-  row-gaps axis k st = ap (λ (s : State). s .walk .gap) (row-is f tol axis k st) ∙ first-on k axis (standing (freshOf (st .walk)) (st .room)) refl
+  row-gaps axis k st = ap (λ (s : State). s .walk .gap) (row-is f tol axis k st) ∙ first-on k axis (walkIn (freshOf (st .walk)) (st .room)) refl
 
-  rows-gaps : (axis ks : List Float) (st : State) → each (rowOf f tol axis) ks st .walk .gap ≡ recordedAll (st .walk .gap) (gapsOn f ks axis) t
+  rows-gaps : (axis ks : List Float) (st : State) → each (tausAt f tol axis) ks st .walk .gap ≡ recordedAll (st .walk .gap) (gapsOn f ks axis) t
   unfolding each flatMap recordedAll
   rows-gaps axis [] st = refl
   rows-gaps axis (k ∷ ks) st =
-      rows-gaps axis ks (rowOf f tol axis k st)
+      rows-gaps axis ks (tausAt f tol axis k st)
       ∙ ap (λ (c : Check). recordedAll c (gapsOn f ks axis) t) (row-gaps axis k st)
       ∙ sym (recorded-on (st .walk .gap) (overPairs (pair k) axis) (gapsOn f ks axis) t)
 
   walk-gaps : (ks axis room : List Float) → walkOf f tol ks axis room .walk .gap ≡ tallyOf (gapsOn f ks axis) t
-  unfolding startOf
-  walk-gaps ks axis room = ap (λ (s : State). s .walk .gap) (walk-is f tol ks axis room) ∙ rows-gaps axis ks (standing startOf room)
+  unfolding walkStart
+  walk-gaps ks axis room = ap (λ (s : State). s .walk .gap) (walk-is f tol ks axis room) ∙ rows-gaps axis ks (walkIn walkStart room)
 
 module _ (run : Run) (policy : ShortExpiryPolicy) (ks taus : List Float) (tol : DiagnosticsConfig) (room : List Float) (d : SurfaceDiagnostics) (done : diagnoseOf run policy ks taus tol room .answer ≡ Done d) where
   pub gaps-between-good : d .«calendar_gap» ≡ tallyOf (gapsOn (seenBy run policy) ks taus) (tol .«calendar_tolerance»)

@@ -17,15 +17,15 @@ use Rattle.laws.specs.Floats.{at}
 use Rattle.laws.specs.Loop.{for}
 use Rattle.laws.proofs.Loops.{again, ended}
 use Rattle.diagnostics.specs.declared.report.DiagnosticsConfig.{DiagnosticsConfig}
-use Rattle.diagnostics.specs.Walk.{State, standing, visitOf, PointFn, rowTurn, walkTurn, freshOf, rowOf, startOf, walkOf}
+use Rattle.diagnostics.specs.Walk.{State, walkIn, visitOf, PointFn, rowTurn, walkTurn, freshOf, tausAt, walkStart, walkOf}
 use Rattle.diagnostics.specs.Diagnostics.{Outcome, diagnoseNumber, reportOf, reported, outcome}
 use Rattle.diagnostics.specs.declared.report.SurfaceDiagnostics.{SurfaceDiagnostics}
 use Rattle.diagnostics.specs.declared.report.Diagnosed.{Diagnosed}
 use Rattle.diagnostics.specs.declared.report.Diagnosed.the-variants.{Done}
 use Rattle.surface.specs.declared.types.Run.{Run}
 
-pub same-walk : {a b : Walk} {l : List Float} → a ≡ b → standing a l ≡ standing b l
-same-walk {a} {b} {l} e = ap (λ (w : Walk). standing w l) e
+pub same-walk : {a b : Walk} {l : List Float} → a ≡ b → walkIn a l ≡ walkIn b l
+same-walk {a} {b} {l} e = ap (λ (w : Walk). walkIn w l) e
 
 -- two tests that say the same
 same-by : (a b c d : ℕ) → (a < b → c < d) → (c < d → a < b) → (s t : Bool) → ltb a b ≡ s → ltb c d ≡ t → s ≡ t
@@ -63,7 +63,7 @@ pub record RowInv (f : PointFn) (tol : DiagnosticsConfig) (axis : List Float) (k
   pub same : length room ≡ length room₀
   pub few : s .failed ≤ s₀ .failed + j
   pub within : j ≤ end′
-  pub left : for j end′ (rowTurn f tol axis k) (standing s room) ≡ for 0 end′ (rowTurn f tol axis k) (standing s₀ room₀)
+  pub left : for j end′ (rowTurn f tol axis k) (walkIn s room) ≡ for 0 end′ (rowTurn f tol axis k) (walkIn s₀ room₀)
 
 -- the same of the loop over k
 pub record WalkInv (f : PointFn) (tol : DiagnosticsConfig) (ks axis : List Float) (room₀ : List Float) (s₀ : Walk) (end′ : ℕ) (room : List Float) (s : Walk) (i : ℕ) : Type 0 where
@@ -72,7 +72,7 @@ pub record WalkInv (f : PointFn) (tol : DiagnosticsConfig) (ks axis : List Float
   pub room-for : 3 * (length ks * length axis) ≤ length room₀
   pub same : length room ≡ length room₀
   pub few : s .failed ≤ i * length axis
-  pub left : for i end′ (walkTurn f tol ks axis) (standing s room) ≡ for 0 end′ (walkTurn f tol ks axis) (standing s₀ room₀)
+  pub left : for i end′ (walkTurn f tol ks axis) (walkIn s room) ≡ for 0 end′ (walkTurn f tol ks axis) (walkIn s₀ room₀)
 
 -- a row begins with as many failures as were counted before it, so there is room for it
 pub row-starts : (from : Walk) {s : Walk} (n l : ℕ) → s ≡ freshOf from → 3 * (from .failed + n) ≤ l → 3 * (s .failed + n) ≤ l
@@ -94,18 +94,18 @@ module _ {f : PointFn} {tol : DiagnosticsConfig} {axis : List Float} {k : Float}
   point-few {n} h = omega (arith, i .few)
 
   -- one visit of what is seen at the point
-  pub point-on : {a : Seen} (w : Walk) (l : List Float) → j < end′ → standing w l ≡ visitOf (standing s room) a k (at axis j) tol → a ≡ f k (at axis j)
-      → for (j + 1) end′ (rowTurn f tol axis k) (standing w l) ≡ for 0 end′ (rowTurn f tol axis k) (standing s₀ room₀)
-  point-on w l h e same = again (rowTurn f tol axis k) j end′ h (e ∙ ap (λ (x : Seen). visitOf (standing s room) x k (at axis j) tol) same) (i .left)
+  pub point-on : {a : Seen} (w : Walk) (l : List Float) → j < end′ → walkIn w l ≡ visitOf (walkIn s room) a k (at axis j) tol → a ≡ f k (at axis j)
+      → for (j + 1) end′ (rowTurn f tol axis k) (walkIn w l) ≡ for 0 end′ (rowTurn f tol axis k) (walkIn s₀ room₀)
+  point-on w l h e same = again (rowTurn f tol axis k) j end′ h (e ∙ ap (λ (x : Seen). visitOf (walkIn s room) x k (at axis j) tol) same) (i .left)
 
   -- at the end of the row
   pub row-few : (from : Walk) → s₀ ≡ freshOf from → s .failed ≤ from .failed + length axis
   unfolding freshOf
   row-few from e = let z = ap (λ (w : Walk). w .failed) e in omega (arith, z, i .few, i .within, i .end)
 
-  pub row-is : (from : Walk) → end′ ≤ j → s₀ ≡ freshOf from → standing s room ≡ rowOf f tol axis k (standing from room₀)
-  unfolding rowOf
-  row-is from l e = ended (rowTurn f tol axis k) j end′ l (i .left) ∙ ap₂ (λ (n : ℕ) (w : Walk). for 0 n (rowTurn f tol axis k) (standing w room₀)) (i .end) e
+  pub row-is : (from : Walk) → end′ ≤ j → s₀ ≡ freshOf from → walkIn s room ≡ tausAt f tol axis k (walkIn from room₀)
+  unfolding tausAt
+  row-is from l e = ended (rowTurn f tol axis k) j end′ l (i .left) ∙ ap₂ (λ (n : ℕ) (w : Walk). for 0 n (rowTurn f tol axis k) (walkIn w room₀)) (i .end) e
 
 module _ {f : PointFn} {tol : DiagnosticsConfig} {ks axis : List Float} {room₀ : List Float} {s₀ : Walk} {end′ : ℕ} {room : List Float} {s : Walk} {j : ℕ} (i : WalkInv f tol ks axis room₀ s₀ end′ room s j) where
   pub row-fits : j < end′ → j + 1 < 2 ^ 64
@@ -121,16 +121,16 @@ module _ {f : PointFn} {tol : DiagnosticsConfig} {ks axis : List Float} {room₀
   rows-few {n} h = omega (arith, h, i .few)
 
   -- one row
-  pub row-on : (w : Walk) (l : List Float) → j < end′ → standing w l ≡ rowOf f tol axis (at ks j) (standing s room) → for (j + 1) end′ (walkTurn f tol ks axis) (standing w l) ≡ for 0 end′ (walkTurn f tol ks axis) (standing s₀ room₀)
+  pub row-on : (w : Walk) (l : List Float) → j < end′ → walkIn w l ≡ tausAt f tol axis (at ks j) (walkIn s room) → for (j + 1) end′ (walkTurn f tol ks axis) (walkIn w l) ≡ for 0 end′ (walkTurn f tol ks axis) (walkIn s₀ room₀)
   row-on w l h e = again (walkTurn f tol ks axis) j end′ h e (i .left)
 
-  pub walk-is : end′ ≤ j → s₀ ≡ startOf → standing s room ≡ walkOf f tol ks axis room₀
+  pub walk-is : end′ ≤ j → s₀ ≡ walkStart → walkIn s room ≡ walkOf f tol ks axis room₀
   unfolding walkOf
-  walk-is l e = ended (walkTurn f tol ks axis) j end′ l (i .left) ∙ ap₂ (λ (n : ℕ) (w : Walk). for 0 n (walkTurn f tol ks axis) (standing w room₀)) (i .end) e
+  walk-is l e = ended (walkTurn f tol ks axis) j end′ l (i .left) ∙ ap₂ (λ (n : ℕ) (w : Walk). for 0 n (walkTurn f tol ks axis) (walkIn w room₀)) (i .end) e
 
 -- a walk begins with no failure
-pub walk-starts : {s : Walk} (n : ℕ) → s ≡ startOf → s .failed ≤ 0 * n
-unfolding startOf
+pub walk-starts : {s : Walk} (n : ℕ) → s ≡ walkStart → s .failed ≤ 0 * n
+unfolding walkStart
 walk-starts n e = let z = ap (λ (w : Walk). w .failed) e in omega (arith, z)
 
 no-refusal : (b : Bool) (m : ℕ) → cond b 12 m ≡ 0 → b ≡ false
@@ -142,7 +142,7 @@ pub room-enough : (run : Run) (ks axis : List Float) (tol : DiagnosticsConfig) (
 unfolding diagnoseNumber
 room-enough run ks axis tol room {r} e z = ltb-false room (3 * (length ks * length axis)) (no-refusal (ltb room (3 * (length ks * length axis))) _ (sym e ∙ z))
 
-pub report-is : {w : Walk} {room : List Float} {rep : SurfaceDiagnostics} {st : State} → rep ≡ reportOf w → standing w room ≡ st → outcome (Done rep) room ≡ reported st
+pub report-is : {w : Walk} {room : List Float} {rep : SurfaceDiagnostics} {st : State} → rep ≡ reportOf w → walkIn w room ≡ st → outcome (Done rep) room ≡ reported st
 unfolding reported
 report-is {w} {room} e h = ap (λ (r : SurfaceDiagnostics). outcome (Done r) room) e ∙ ap reported h
 

@@ -14,7 +14,7 @@ use Rattle.diagnostics.specs.declared.report.SurfaceDiagnostics.{Surface
 use Rattle.diagnostics.specs.declared.report.Diagnosed.the-variants.{Done}
 use Rattle.diagnostics.specs.Tally.{pointAt, recordedOf}
 use Rattle.diagnostics.specs.Recorded.{recordedAll, tallyOf}
-use Rattle.diagnostics.specs.Walk.{State, goodOf, failedOf, visitOf, freshOf, startOf}
+use Rattle.diagnostics.specs.Walk.{State, goodOf, failedOf, visitOf, freshOf, walkStart}
 use Rattle.diagnostics.specs.OnGrid.{butterflyAt, slopeAt, butterfliesOn, slopesOn, seenBy}
 use Rattle.diagnostics.specs.Diagnostics.{reportOf, diagnoseOf}
 use Rattle.diagnostics.proofs.Walking.{walk-on, accepted}
@@ -45,7 +45,7 @@ slope-visit st (Failed n) k tau tol l e = none-more l (tol .«calendar_tolerance
 
 module _ (run : Run) (policy : ShortExpiryPolicy) (ks taus : List Float) (tol : DiagnosticsConfig) (room : List Float) (d : SurfaceDiagnostics) (done : diagnoseOf run policy ks taus tol room .answer ≡ Done d) where
   pub butterfly-tally : d .butterfly ≡ tallyOf (butterfliesOn (seenBy run policy) ks taus) (tol .«butterfly_tolerance»)
-  unfolding reportOf startOf freshOf recordedAll
+  unfolding reportOf walkStart freshOf recordedAll
   butterfly-tally =
       ap (λ (d : SurfaceDiagnostics). d .butterfly) (accepted run policy ks taus tol room d done .report)
       ∙ walk-on (seenBy run policy) tol (λ k tau. butterflyAt k tau (seenBy run policy k tau)) (λ (m : ℕ) (l : List DiagnosticPoint) (st : State). st .walk .butterfly ≡ tallyOf l (tol .«butterfly_tolerance»)) ks taus
@@ -55,7 +55,7 @@ module _ (run : Run) (policy : ShortExpiryPolicy) (ks taus : List Float) (tol : 
       refl
 
   pub slope-tally : d .«calendar_slope» ≡ tallyOf (slopesOn (seenBy run policy) ks taus) (tol .«calendar_tolerance»)
-  unfolding reportOf startOf freshOf recordedAll
+  unfolding reportOf walkStart freshOf recordedAll
   slope-tally =
       ap (λ (d : SurfaceDiagnostics). d .«calendar_slope») (accepted run policy ks taus tol room d done .report)
       ∙ walk-on (seenBy run policy) tol (λ k tau. slopeAt k tau (seenBy run policy k tau)) (λ (m : ℕ) (l : List DiagnosticPoint) (st : State). st .walk .slope ≡ tallyOf l (tol .«calendar_tolerance»)) ks taus

@@ -20,7 +20,7 @@ use Rattle.surface.specs.Surface.{entryNumber}
 use Rattle.diagnostics.specs.declared.report.DiagnosticsConfig.{DiagnosticsConfig}
 use Rattle.diagnostics.specs.declared.report.SurfaceDiagnostics.{SurfaceDiagnostics}
 use Rattle.diagnostics.specs.declared.report.Diagnosed.the-variants.{Done, Refused}
-use Rattle.diagnostics.specs.Walk.{State, standing, visitOf, freshOf, startOf, rowOf, walkOf, PointFn}
+use Rattle.diagnostics.specs.Walk.{State, walkIn, visitOf, freshOf, walkStart, tausAt, walkOf, PointFn}
 use Rattle.diagnostics.specs.OnGrid.{overGrid, seenBy}
 use Rattle.diagnostics.specs.Diagnostics.{Outcome, outcome, reportOf, reported, toleranceNumber, diagnoseNumber, diagnoseOf}
 use Rattle.diagnostics.proofs.Standing.{room-enough}
@@ -50,19 +50,19 @@ module _ (f : PointFn) (tol : DiagnosticsConfig) where
   visitTurn k tau st = visitOf st (f k tau) k tau tol
 
   -- one k, over the tau axis
-  pub row-is : (axis : List Float) (k : Float) (st : State) → rowOf f tol axis k st ≡ each (visitTurn k) axis (standing (freshOf (st .walk)) (st .room))
-  unfolding rowOf
-  row-is axis k st = by-values (visitTurn k) axis (standing (freshOf (st .walk)) (st .room))
+  pub row-is : (axis : List Float) (k : Float) (st : State) → tausAt f tol axis k st ≡ each (visitTurn k) axis (walkIn (freshOf (st .walk)) (st .room))
+  unfolding tausAt
+  row-is axis k st = by-values (visitTurn k) axis (walkIn (freshOf (st .walk)) (st .room))
 
   -- every k
-  pub walk-is : (ks axis room : List Float) → walkOf f tol ks axis room ≡ each (rowOf f tol axis) ks (standing startOf room)
+  pub walk-is : (ks axis room : List Float) → walkOf f tol ks axis room ≡ each (tausAt f tol axis) ks (walkIn walkStart room)
   unfolding walkOf
-  walk-is ks axis room = by-values (rowOf f tol axis) ks (standing startOf room)
+  walk-is ks axis room = by-values (tausAt f tol axis) ks (walkIn walkStart room)
 
   -- what each visit keeps, of the number of points seen, of what was listed of them, and of the state: at the end all points are seen and listed
   module _ {A : Type 0} (g : Float → Float → List A) (P : ℕ → List A → State → Type 0) (ks axis : List Float)
       (visit : (m : ℕ) (l : List A) (st : State) (k tau : Float) → m < length ks * length axis → P m l st → P (m + 1) (l ++ g k tau) (visitTurn k tau st))
-      (fresh : (m : ℕ) (l : List A) (st : State) → P m l st → P m l (standing (freshOf (st .walk)) (st .room))) where
+      (fresh : (m : ℕ) (l : List A) (st : State) → P m l st → P m l (walkIn (freshOf (st .walk)) (st .room))) where
     moved : {m n : ℕ} {l r : List A} (st : State) → m ≡ n → l ≡ r → P m l st → P n r st
     moved {m} {n} {l} {r} st e h p = subst (λ (n : ℕ). P n r st) e (subst (λ (r : List A). P m r st) h p)
 
@@ -71,15 +71,15 @@ module _ (f : PointFn) (tol : DiagnosticsConfig) where
     row-on k [] m l st h p = moved st (omega arith) (sym (append-nil l)) p
     row-on k (x ∷ xs) m l st h p = moved (each (visitTurn k) xs (visitTurn k x st)) (omega arith) (append-assoc l (g k x) (flatMap (g k) xs)) (row-on k xs (m + 1) (l ++ g k x) (visitTurn k x st) (omega (arith, h)) (visit m l st k x (omega (arith, h)) p))
 
-    rows-on : (ys : List Float) (m : ℕ) (l : List A) (st : State) → m + length ys * length axis ≤ length ks * length axis → P m l st → P (m + length ys * length axis) (l ++ overGrid g ys axis) (each (rowOf f tol axis) ys st)
+    rows-on : (ys : List Float) (m : ℕ) (l : List A) (st : State) → m + length ys * length axis ≤ length ks * length axis → P m l st → P (m + length ys * length axis) (l ++ overGrid g ys axis) (each (tausAt f tol axis) ys st)
     unfolding flatMap each
     rows-on [] m l st h p = moved st (omega arith) (sym (append-nil l)) p
     rows-on (y ∷ ys) m l st h p =
-        let r : P (m + length axis) (l ++ flatMap (g y) axis) (rowOf f tol axis y st) = subst (P (m + length axis) (l ++ flatMap (g y) axis)) (sym (row-is axis y st)) (row-on y axis m l _ (omega (arith, h)) (fresh m l st p)) in
-        moved (each (rowOf f tol axis) ys (rowOf f tol axis y st)) (omega arith) (append-assoc l (flatMap (g y) axis) (overGrid g ys axis)) (rows-on ys (m + length axis) (l ++ flatMap (g y) axis) (rowOf f tol axis y st) (omega (arith, h)) r)
+        let r : P (m + length axis) (l ++ flatMap (g y) axis) (tausAt f tol axis y st) = subst (P (m + length axis) (l ++ flatMap (g y) axis)) (sym (row-is axis y st)) (row-on y axis m l _ (omega (arith, h)) (fresh m l st p)) in
+        moved (each (tausAt f tol axis) ys (tausAt f tol axis y st)) (omega arith) (append-assoc l (flatMap (g y) axis) (overGrid g ys axis)) (rows-on ys (m + length axis) (l ++ flatMap (g y) axis) (tausAt f tol axis y st) (omega (arith, h)) r)
 
-    pub walk-on : (room : List Float) → P 0 [] (standing startOf room) → P (length ks * length axis) (overGrid g ks axis) (walkOf f tol ks axis room)
-    walk-on room p = subst (P (length ks * length axis) (overGrid g ks axis)) (sym (walk-is ks axis room)) (moved (each (rowOf f tol axis) ks (standing startOf room)) (omega arith) refl (rows-on ks 0 [] (standing startOf room) (omega arith) p))
+    pub walk-on : (room : List Float) → P 0 [] (walkIn walkStart room) → P (length ks * length axis) (overGrid g ks axis) (walkOf f tol ks axis room)
+    walk-on room p = subst (P (length ks * length axis) (overGrid g ks axis)) (sym (walk-is ks axis room)) (moved (each (tausAt f tol axis) ks (walkIn walkStart room)) (omega arith) refl (rows-on ks 0 [] (walkIn walkStart room) (omega arith) p))
 
 -- ---- an answer that is a report
 

@@ -63,8 +63,8 @@ pub record State : Type 0 where
   pub walk : Walk
   pub room : List Float
 
-abbrev pub standing : Walk → List Float → State
-standing w room = record { walk = w; room = room }
+abbrev pub walkIn : Walk → List Float → State
+walkIn w room = record { walk = w; room = room }
 
 -- failure i of the room: k, tau and the number
 unfoldable pub failureAt : List Float → ℕ → Float → Float → ℕ → List Float
@@ -72,8 +72,8 @@ failureAt room i k tau n = set (set (set room (3 * i) k) (3 * i + 1) tau) (3 * i
 
 -- a point is recorded, or its failure is written
 unfoldable pub visitOf : State → Seen → Float → Float → DiagnosticsConfig → State
-visitOf st (Good g w wtau) k tau tol = standing (goodOf (st .walk) k tau g w wtau tol) (st .room)
-visitOf st (Failed n) k tau tol = standing (failedOf (st .walk)) (failureAt (st .room) (st .walk .failed) k tau n)
+visitOf st (Good g w wtau) k tau tol = walkIn (goodOf (st .walk) k tau g w wtau tol) (st .room)
+visitOf st (Failed n) k tau tol = walkIn (failedOf (st .walk)) (failureAt (st .room) (st .walk .failed) k tau n)
 
 -- ---- the walk, over any function from k and tau to what is seen there
 
@@ -88,18 +88,18 @@ abbrev pub rowTurn : PointFn → DiagnosticsConfig → List Float → Float → 
 rowTurn f tol axis k j st = visitOf st (f k (at axis j)) k (at axis j) tol
 
 -- one k, over the tau axis
-unfoldable pub rowOf : PointFn → DiagnosticsConfig → List Float → Float → State → State
-rowOf f tol axis k st = for 0 (length axis) (rowTurn f tol axis k) (standing (freshOf (st .walk)) (st .room))
+unfoldable pub tausAt : PointFn → DiagnosticsConfig → List Float → Float → State → State
+tausAt f tol axis k st = for 0 (length axis) (rowTurn f tol axis k) (walkIn (freshOf (st .walk)) (st .room))
 
-unfoldable pub startOf : Walk
-startOf = record { butterfly = noCheck; slope = noCheck; gap = noCheck; failed = 0; previous = noPrevious }
+unfoldable pub walkStart : Walk
+walkStart = record { butterfly = noCheck; slope = noCheck; gap = noCheck; failed = 0; previous = noPrevious }
 
 abbrev pub walkTurn : PointFn → DiagnosticsConfig → List Float → List Float → ℕ → State → State
-walkTurn f tol ks axis i st = rowOf f tol axis (at ks i) st
+walkTurn f tol ks axis i st = tausAt f tol axis (at ks i) st
 
 -- every k, one after the other
 unfoldable pub walkOf : PointFn → DiagnosticsConfig → List Float → List Float → List Float → State
-walkOf f tol ks axis room = for 0 (length ks) (walkTurn f tol ks axis) (standing startOf room)
+walkOf f tol ks axis room = for 0 (length ks) (walkTurn f tol ks axis) (walkIn walkStart room)
 
 -- what is seen at a point of tested slices
 unfoldable pub seenOn : List SviSlice → List Float → List Float → ℕ → ShortExpiryPolicy → PointFn

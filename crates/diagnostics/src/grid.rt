@@ -2,7 +2,7 @@
 ghost use mathlib.Core.Path.{_≡_};
 ghost use Prim.Native.Nat.{_+_, _*_, _<_, _≤_};
 ghost use lib.ListN.{length};
-ghost use Rattle.diagnostics.specs.Walk.{gapOf, goodOf, failedOf, standing, visitOf, freshOf, seenOn, rowOf, noPrevious, startOf, walkOf};
+ghost use Rattle.diagnostics.specs.Walk.{gapOf, goodOf, failedOf, walkIn, visitOf, freshOf, seenOn, tausAt, noPrevious, walkStart, walkOf};
 use crate::points::Seen;
 use crate::report::DiagnosticsConfig;
 use crate::tally::Check;
@@ -99,7 +99,7 @@ fn failed_at(s: Walk) -> Walk
 
 fn visit(room: &mut [f64], s: Walk, seen: Seen, k: f64, tau: f64, tol: DiagnosticsConfig) -> Walk
     requires { ⌜ 3 * s .failed + 3 ≤ length (now room) ⌝ }
-    ensures { λ r. ⌜ standing r (now (room .exit)) ≡ visitOf (standing s (now (room .entry))) seen k tau tol ⌝ }
+    ensures { λ r. ⌜ walkIn r (now (room .exit)) ≡ visitOf (walkIn s (now (room .entry))) seen k tau tol ⌝ }
     ensures { λ r. ⌜ r .failed ≤ s .failed + 1 ⌝ }
 {
     match seen {
@@ -143,7 +143,7 @@ fn row(
     room: &mut [f64],
 ) -> Walk
     requires { ⌜ 3 * (from .failed + length (now axis)) ≤ length (now room) ⌝ }
-    ensures { λ r. ⌜ standing r (now (room .exit)) ≡ rowOf (seenOn recs (now (taus .entry)) (now (tols .entry)) n policy) tol (now (axis .entry)) k (standing from (now (room .entry))) ⌝ }
+    ensures { λ r. ⌜ walkIn r (now (room .exit)) ≡ tausAt (seenOn recs (now (taus .entry)) (now (tols .entry)) n policy) tol (now (axis .entry)) k (walkIn from (now (room .entry))) ⌝ }
     ensures { λ r. ⌜ r .failed ≤ from .failed + length (now (axis .entry)) ⌝ }
 {
     let mut s = fresh(from);
@@ -156,7 +156,7 @@ fn row(
 }
 
 fn start() -> Walk
-    ensures { λ r. ⌜ r ≡ startOf ⌝ }
+    ensures { λ r. ⌜ r ≡ walkStart ⌝ }
 {
     let none = Check::default();
     Walk {
@@ -180,7 +180,7 @@ pub(crate) fn walk_grid(
     room: &mut [f64],
 ) -> Walk
     requires { ⌜ 3 * (length (now ks) * length (now axis)) ≤ length (now room) ⌝ }
-    ensures { λ r. ⌜ standing r (now (room .exit)) ≡ walkOf (seenOn recs (now (taus .entry)) (now (tols .entry)) n policy) tol (now (ks .entry)) (now (axis .entry)) (now (room .entry)) ⌝ }
+    ensures { λ r. ⌜ walkIn r (now (room .exit)) ≡ walkOf (seenOn recs (now (taus .entry)) (now (tols .entry)) n policy) tol (now (ks .entry)) (now (axis .entry)) (now (room .entry)) ⌝ }
 {
     let mut s = start();
     for i in 0..ks.len() {

@@ -32,5 +32,5 @@ abbrev pub memberOf : Face → ℕ → ℕ
 memberOf f s = cond (eqb s 0) (f .a) (cond (eqb s 1) (f .b) (f .c))
 
 -- the constraints of a face marked among seven
-unfoldable pub marksOf : Face → List Bool
-marksOf f = for 0 (f .size) (λ s t. set t (memberOf f s) true) (replicate 7 false)
+unfoldable pub faceMarks : Face → List Bool
+faceMarks f = for 0 (f .size) (λ s t. set t (memberOf f s) true) (replicate 7 false)

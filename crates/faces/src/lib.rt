@@ -1,6 +1,6 @@
 // The faces in their order: sets of constraints, by size, then in dictionary order, each worked out from the one before.
 ghost use mathlib.Core.Path.{_≡_};
-ghost use Rattle.faces.specs.Faces.{memberOf, marksOf};
+ghost use Rattle.faces.specs.Faces.{memberOf, faceMarks};
 ghost use Rattle.faces.specs.Next.{afterOne, afterTwo, afterThree, nextOf};
 
 // A face: how many of its constraints are held, and which, rising; what is not used is 0.
@@ -129,7 +129,7 @@ pub fn next(f: Face) -> Face
 
 // The seven marks of a face; a member that is none of the seven has none.
 pub fn marks(f: Face) -> [bool; 7]
-    ensures { λ r. ⌜ r ≡ marksOf f ⌝ }
+    ensures { λ r. ⌜ r ≡ faceMarks f ⌝ }
 {
     let mut t = [false; 7];
     for s in 0..f.size {

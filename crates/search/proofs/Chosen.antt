@@ -10,7 +10,7 @@ use Rattle.search.specs.declared.Found.{Found}
 use Rattle.search.specs.declared.Place.{Place}
 use Rattle.search.specs.declared.Plan.{Plan}
 use Rattle.search.specs.declared.Search.{Search}
-use Rattle.search.specs.Search.{CellFn, pointAt, anyEdge, passOf, improves, foundOf, placeOf, movedOf, countedOf, refusedOf, stepOf, startOf, afterPasses}
+use Rattle.search.specs.Search.{CellFn, axisPoint, anyEdge, passOf, improves, foundOf, placeOf, movedOf, countedOf, searchRefused, stepOf, startOf, afterPasses}
 use Rattle.search.proofs.Passes.{Stands, pass-stands}
 use Rattle.search.proofs.Trail.{after-ind, trail, passes-after}
 use Rattle.search.proofs.Least.{moved-found}
@@ -22,8 +22,8 @@ pub record Chosen (f : CellFn) (p : Plan) (o : Found) (k : ℕ) : Type 0 where
   pub j : ℕ
   pub made : pass < k
   pub stands : Stands f (afterPasses f p pass .window) (p .n) (o .cell) i j
-  pub m : o .m ≡ pointAt (afterPasses f p pass .window .m) (p .n) i
-  pub ls : o .ls ≡ pointAt (afterPasses f p pass .window .s) (p .n) j
+  pub m : o .m ≡ axisPoint (afterPasses f p pass .window .m) (p .n) i
+  pub ls : o .ls ≡ axisPoint (afterPasses f p pass .window .s) (p .n) j
   pub edge : o .«on_edge» ≡ (anyEdge i (p .n - 1) || anyEdge j (p .n - 1))
 
 module _ (f : CellFn) (p : Plan) where
@@ -51,7 +51,7 @@ module _ (f : CellFn) (p : Plan) where
         go false h = longer (s .found) q (q + 1) (omega arith) (old h)
 
     step-chosen : T (stepOf f p s .found .cell .some) → Chosen f p (stepOf f p s .found) (q + 1)
-    unfolding s b stepOf refusedOf
+    unfolding s b stepOf searchRefused
     step-chosen = go (b .cell .some) new-chosen
       where
         n : Counts
@@ -59,7 +59,7 @@ module _ (f : CellFn) (p : Plan) where
 
         go : (x : Bool)
             → (T x → T (foundOf b (placeOf p (s .window) b) (s .found) .cell .some) → Chosen f p (foundOf b (placeOf p (s .window) b) (s .found)) (q + 1))
-            → T (cond x (movedOf p s n b) (refusedOf s n) .found .cell .some) → Chosen f p (cond x (movedOf p s n b) (refusedOf s n) .found) (q + 1)
+            → T (cond x (movedOf p s n b) (searchRefused s n) .found .cell .some) → Chosen f p (cond x (movedOf p s n b) (searchRefused s n) .found) (q + 1)
         go true h t = rw (moved-found p s n b) (h tt (rw (moved-found p s n b) at t))
         go false h t = longer (s .found) q (q + 1) (omega arith) (old t)
 

@@ -15,7 +15,7 @@ use Rattle.search.specs.declared.Found.{Found}
 use Rattle.search.specs.declared.Place.{Place}
 use Rattle.search.specs.declared.Plan.{Plan}
 use Rattle.search.specs.declared.Search.{Search}
-use Rattle.search.specs.Search.{CellFn, passOf, placeOf, foundOf, improves, recentred, shrunk, stopped, movedOf, countedOf, refusedOf, stepOf, startOf, afterPasses}
+use Rattle.search.specs.Search.{CellFn, passOf, placeOf, foundOf, improves, recentred, shrunk, stopped, movedOf, countedOf, searchRefused, stepOf, startOf, afterPasses}
 use Rattle.search.specs.Promised.{cellOfPass}
 use Rattle.search.proofs.Passes.{AsGood, Proper, later-old, later-new, pass-new, pass-of}
 use Rattle.search.proofs.Trail.{moved-ind, after-ind, trail, passes-after}
@@ -52,37 +52,37 @@ module _ (f : CellFn) (p : Plan) (s : Search) where
 
   -- what a pass leaves as found: the later of two, or, where the pass has no face, what was there
   pub step-cell : stepOf f p s .found .cell ≡ cond (best .cell .some) (cond (improves (best .cell) (s .found .cell)) (best .cell) (s .found .cell)) (s .found .cell)
-  unfolding stepOf refusedOf best
+  unfolding stepOf searchRefused best
   step-cell = go (best .cell .some)
     where
       n : Counts
       n = countedOf (s .counts) best
 
-      go : (x : Bool) → cond x (movedOf p s n best) (refusedOf s n) .found .cell ≡ cond x (cond (improves (best .cell) (s .found .cell)) (best .cell) (s .found .cell)) (s .found .cell)
+      go : (x : Bool) → cond x (movedOf p s n best) (searchRefused s n) .found .cell ≡ cond x (cond (improves (best .cell) (s .found .cell)) (best .cell) (s .found .cell)) (s .found .cell)
       go true = ap (λ (o : Found). o .cell) (moved-found p s n best) ∙ found-cell best (placeOf p (s .window) best) (s .found)
       go false = refl
 
   -- it refuses exactly where the pass has no face
   pub step-refused : stepOf f p s .refused ≡ not (best .cell .some)
-  unfolding stepOf refusedOf best
+  unfolding stepOf searchRefused best
   step-refused = go (best .cell .some)
     where
       n : Counts
       n = countedOf (s .counts) best
 
-      go : (x : Bool) → cond x (movedOf p s n best) (refusedOf s n) .refused ≡ not x
+      go : (x : Bool) → cond x (movedOf p s n best) (searchRefused s n) .refused ≡ not x
       go true = moved-accepts p s n best
       go false = refl
 
   -- and what refuses goes no further
   pub step-open : stepOf f p s .going ≡ true → stepOf f p s .refused ≡ false
-  unfolding stepOf refusedOf best
+  unfolding stepOf searchRefused best
   step-open = go (best .cell .some)
     where
       n : Counts
       n = countedOf (s .counts) best
 
-      go : (x : Bool) → cond x (movedOf p s n best) (refusedOf s n) .going ≡ true → cond x (movedOf p s n best) (refusedOf s n) .refused ≡ false
+      go : (x : Bool) → cond x (movedOf p s n best) (searchRefused s n) .going ≡ true → cond x (movedOf p s n best) (searchRefused s n) .refused ≡ false
       go true e = moved-accepts p s n best
       go false e = false-true e
 

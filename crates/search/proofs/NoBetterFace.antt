@@ -12,7 +12,7 @@ use Rattle.cell.specs.declared.Cell.{Cell}
 use Rattle.cell.specs.Choice.{Beats}
 use Rattle.search.specs.declared.Plan.{Plan}
 use Rattle.search.specs.declared.Search.{Search}
-use Rattle.search.specs.Search.{CellFn, pointAt, passOf, afterPasses, limitOf, searchOf}
+use Rattle.search.specs.Search.{CellFn, axisPoint, passOf, afterPasses, limitOf, searchOf}
 use Rattle.search.specs.Promised.{FaceFn, ChosenFrom, cellOfPass, faceOfPass, Qualifies, Yields, ChosenFace, Promised}
 use Rattle.search.proofs.Passes.{AsGood, Proper, pass-stands}
 use Rattle.search.proofs.Trail.{trail, some-pass}
@@ -34,10 +34,10 @@ module _ (f : CellFn) (g : FaceFn) (top : ℕ) (from : ChosenFrom f g top) (p : 
   proper m ls h = finite-no-nan _ (from .finite-objective m ls h)
 
   abbrev mAt : ℕ → ℕ → Float
-  mAt q i = pointAt (afterPasses f p q .window .m) (p .n) i
+  mAt q i = axisPoint (afterPasses f p q .window .m) (p .n) i
 
   abbrev lsAt : ℕ → ℕ → Float
-  lsAt q j = pointAt (afterPasses f p q .window .s) (p .n) j
+  lsAt q j = axisPoint (afterPasses f p q .window .s) (p .n) j
 
   -- a face that qualifies, and the cell that tried it
   beaten : (q i j t : ℕ) → Qualifies f g p q i j t → Beats (g (mAt q i) (lsAt q j)) (cellOfPass f p q i j) t

@@ -16,7 +16,7 @@ use Rattle.cell.specs.declared.Cell.{Cell}
 use Rattle.cell.specs.Cell.{noCell}
 use Rattle.search.specs.declared.Window.{Window}
 use Rattle.search.specs.declared.PassBest.{PassBest}
-use Rattle.search.specs.Search.{CellFn, better, consider, noBest, rowOf, passOf, cellAt, improves}
+use Rattle.search.specs.Search.{CellFn, better, consider, noBest, gridRow, passOf, cellAt, improves}
 use Rattle.search.specs.Promised.{sum}
 use Rattle.search.proofs.Sums.{sum-none, sum-next}
 
@@ -75,7 +75,7 @@ module _ (f : CellFn) (w : Window) (n : ℕ) where
 
   -- the first i rows
   abbrev pub rowsTo : ℕ → PassBest
-  rowsTo i = for 0 i (λ i b. rowOf f w n i b) noBest
+  rowsTo i = for 0 i (λ i b. gridRow f w n i b) noBest
 
   pub record CountsTo (b : PassBest) (k m : ℕ) : Type 0 where
     pub cells : b .cells ≡ k
@@ -89,9 +89,9 @@ module _ (f : CellFn) (w : Window) (n : ℕ) where
       (let z = sum-none (facesAt i) in record { cells = omega arith; faces = omega (arith, z) })
 
   pub rows-counts : (i : ℕ) → CountsTo (rowsTo i) (i * n) (sum i (λ i. sum n (facesAt i)))
-  unfolding rowOf
+  unfolding gridRow
   rows-counts i =
-      for-ind (λ i b. rowOf f w n i b) (λ (i : ℕ) (t : PassBest). CountsTo t (i * n) (sum i (λ i. sum n (facesAt i)))) i
+      for-ind (λ i b. gridRow f w n i b) (λ (i : ℕ) (t : PassBest). CountsTo t (i * n) (sum i (λ i. sum n (facesAt i)))) i
       (λ k t l h.
       let r = row-counts k t n in
       let z = sum-next k (λ i. sum n (facesAt i)) in
@@ -106,8 +106,8 @@ module _ (f : CellFn) (w : Window) (n : ℕ) where
     new : (k : ℕ) → k < j → AsGood (t .cell) (cellAt f w n i k)
     old : (x : Cell) → AsGood (b .cell) x → AsGood (t .cell) x
 
-  row-meets : (i : ℕ) (b : PassBest) → Meets i b n (rowOf f w n i b)
-  unfolding rowOf consider
+  row-meets : (i : ℕ) (b : PassBest) → Meets i b n (gridRow f w n i b)
+  unfolding gridRow consider
   row-meets i b =
       for-ind (λ j b. consider b (cellAt f w n i j) i j) (Meets i b) n
       (λ j t l h.
@@ -121,23 +121,23 @@ module _ (f : CellFn) (w : Window) (n : ℕ) where
   pub pass-new : (i : ℕ) → i < n → (j : ℕ) → j < n → AsGood (passOf f w n .cell) (cellAt f w n i j)
   unfolding passOf
   pass-new =
-      for-ind (λ i b. rowOf f w n i b) (λ (i : ℕ) (t : PassBest). (h : ℕ) → h < i → (j : ℕ) → j < n → AsGood (t .cell) (cellAt f w n h j)) n
+      for-ind (λ i b. gridRow f w n i b) (λ (i : ℕ) (t : PassBest). (h : ℕ) → h < i → (j : ℕ) → j < n → AsGood (t .cell) (cellAt f w n h j)) n
       (λ i t l h.
-      below-next (λ (k : ℕ). (j : ℕ) → j < n → AsGood (rowOf f w n i t .cell) (cellAt f w n k j)) i
+      below-next (λ (k : ℕ). (j : ℕ) → j < n → AsGood (gridRow f w n i t .cell) (cellAt f w n k j)) i
       (λ k m j o. row-meets i t .old (cellAt f w n k j) (h k m j o)) (row-meets i t .new)) noBest
       (λ k l. absurd (not-suc-le-zero l))
 
   -- ---- what holds of no cell and of each cell holds of the best
 
-  row-of : (P : Cell → Type 0) → ((m ls : Float) → P (f m ls)) → (i : ℕ) (b : PassBest) → P (b .cell) → P (rowOf f w n i b .cell)
-  unfolding rowOf consider
+  row-of : (P : Cell → Type 0) → ((m ls : Float) → P (f m ls)) → (i : ℕ) (b : PassBest) → P (b .cell) → P (gridRow f w n i b .cell)
+  unfolding gridRow consider
   row-of P all i b p =
       for-keeps (λ (t : PassBest). P (t .cell)) (λ j b. consider b (cellAt f w n i j) i j) n
       (λ j l t h. cond-ind P (better (cellAt f w n i j) (t .cell)) (all _ _) h) b p
 
   pub pass-of : (P : Cell → Type 0) → ((m ls : Float) → P (f m ls)) → P noCell → P (passOf f w n .cell)
   unfolding passOf
-  pass-of P all none = for-keeps (λ (t : PassBest). P (t .cell)) (λ i b. rowOf f w n i b) n (λ i l t h. row-of P all i t h) noBest none
+  pass-of P all none = for-keeps (λ (t : PassBest). P (t .cell)) (λ i b. gridRow f w n i b) n (λ i l t h. row-of P all i t h) noBest none
 
   -- ---- the best is the cell at its place
 
@@ -152,10 +152,10 @@ module _ (f : CellFn) (w : Window) (n : ℕ) where
       go true h = record { row = x; column = y; is = refl }
       go false h = g h
 
-  row-stands : (i : ℕ) (b : PassBest) → i < n → StandsOf b → StandsOf (rowOf f w n i b)
-  unfolding rowOf
+  row-stands : (i : ℕ) (b : PassBest) → i < n → StandsOf b → StandsOf (gridRow f w n i b)
+  unfolding gridRow
   row-stands i b x g = for-keeps StandsOf (λ j b. consider b (cellAt f w n i j) i j) n (λ j l t h. consider-stands t i j x l h) b g
 
   pub pass-stands : StandsOf (passOf f w n)
   unfolding passOf
-  pass-stands = for-keeps StandsOf (λ i b. rowOf f w n i b) n (λ i l t h. row-stands i t l h) noBest (λ h. absurd h)
+  pass-stands = for-keeps StandsOf (λ i b. gridRow f w n i b) n (λ i l t h. row-stands i t l h) noBest (λ h. absurd h)

@@ -12,7 +12,7 @@ use Rattle.search.specs.declared.Plan.{Plan}
 use Rattle.search.specs.declared.Search.{Search}
 use Rattle.search.specs.Search.{CellFn, afterPasses, limitOf}
 use Rattle.search.specs.Promised.{sum, cellOfPass}
-use Rattle.search.specs.Run.{sizesHold}
+use Rattle.search.specs.Run.{planSizesHold}
 use Rattle.search.specs.Roomy.{Roomy}
 use Rattle.search.proofs.Sums.{sum-most}
 use Rattle.search.proofs.Trail.{trail}
@@ -46,8 +46,8 @@ pub record Sizes (p : Plan) : Type 0 where
   pub refinements : p .refinements ≤ 1000
   pub recentres : p .«max_recentres» ≤ 1000
 
-pub sizes-are : (p : Plan) → sizesHold p ≡ true → Sizes p
-unfolding sizesHold
+pub sizes-are : (p : Plan) → planSizesHold p ≡ true → Sizes p
+unfolding planSizesHold
 sizes-are p h =
     let a = both (leb (p .n) 255) (leb (p .refinements) 1000 && leb (p .«max_recentres») 1000) h in
     let b = both (leb (p .refinements) 1000) (leb (p .«max_recentres») 1000) (a .1) in

@@ -18,7 +18,7 @@ use Rattle.search.specs.declared.Found.{Found}
 use Rattle.search.specs.declared.Place.{Place}
 use Rattle.search.specs.declared.Plan.{Plan}
 use Rattle.search.specs.declared.Search.{Search}
-use Rattle.search.specs.Search.{CellFn, passOf, placeOf, foundOf, improves, width, recentred, narrowed, shrunk, stopped, canRecentre, canShrink, movedOf, countedOf, refusedOf, stepOf, startOf, nextOf, afterPasses}
+use Rattle.search.specs.Search.{CellFn, passOf, placeOf, foundOf, improves, width, recentred, narrowed, shrunk, stopped, canRecentre, canShrink, movedOf, countedOf, searchRefused, stepOf, startOf, passWhileGoing, afterPasses}
 use Rattle.search.specs.Promised.{sum}
 use Rattle.search.proofs.Sums.{sum-none, sum-next}
 use Rattle.search.proofs.Passes.{facesAt, rows-counts}
@@ -75,16 +75,16 @@ module _ (p : Plan) (s : Search) (n : Counts) (r : n .recentres ≤ p .«max_rec
       moved-ind (λ (t : Search). Kept p n (t .counts)) p s n b (recentred-kept b _ _) (shrunk-kept _)
       (record { passes = refl; cells = refl; faces = refl; recentres = r; shrinks = h })
 
-  refused-kept : Kept p n (refusedOf s n .counts)
-  unfolding refusedOf
+  refused-kept : Kept p n (searchRefused s n .counts)
+  unfolding searchRefused
   refused-kept = record { passes = refl; cells = refl; faces = refl; recentres = r; shrinks = h }
 
 -- ---- pass after pass
 
 module _ (f : CellFn) (p : Plan) where
-  pub after-next : (q : ℕ) → afterPasses f p (q + 1) ≡ nextOf f p q (afterPasses f p q)
+  pub after-next : (q : ℕ) → afterPasses f p (q + 1) ≡ passWhileGoing f p q (afterPasses f p q)
   unfolding afterPasses
-  after-next q = ap (λ (k : ℕ). turns (nextOf f p) k 0 (startOf p)) (add-one q) ∙ turns-last (nextOf f p) q 0 (startOf p)
+  after-next q = ap (λ (k : ℕ). turns (passWhileGoing f p) k 0 (startOf p)) (add-one q) ∙ turns-last (passWhileGoing f p) q 0 (startOf p)
 
   -- a pass that is made is a step
   pub after-step : (q : ℕ) → afterPasses f p q .going ≡ true → afterPasses f p (q + 1) ≡ stepOf f p (afterPasses f p q)

@@ -10,7 +10,7 @@ use Rattle.laws.proofs.Order.{lt-not-self}
 use Rattle.search.specs.declared.Axis.{Axis}
 use Rattle.search.specs.declared.Plan.{Plan}
 use Rattle.search.specs.declared.Search.{Search}
-use Rattle.search.specs.Search.{CellFn, around, passOf, recentred, narrowed, shrunk, stopped, countedOf, refusedOf, stepOf, startOf, afterPasses}
+use Rattle.search.specs.Search.{CellFn, around, passOf, recentred, narrowed, shrunk, stopped, countedOf, searchRefused, stepOf, startOf, afterPasses}
 use Rattle.search.specs.Inside.{Within, Inside}
 use Rattle.search.proofs.Trail.{moved-ind, after-ind}
 
@@ -39,7 +39,7 @@ around-within c h d = record { lo = max-above _ (d .lo); hi = min-below _ (d .hi
 
 -- a pass leaves a window inside the domain
 step-inside : (f : CellFn) (p : Plan) (s : Search) → Inside (p .domain) (s .window) → Inside (p .domain) (stepOf f p s .window)
-unfolding stepOf recentred shrunk narrowed stopped refusedOf
+unfolding stepOf recentred shrunk narrowed stopped searchRefused
 step-inside f p s h =
     let b = passOf f (s .window) (p .n) in
     cond-ind (λ (t : Search). Inside (p .domain) (t .window)) (b .cell .some)

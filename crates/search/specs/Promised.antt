@@ -13,7 +13,7 @@ use Rattle.cell.specs.Cell.{cellFrom}
 use Rattle.cell.specs.Choice.{Beats, First}
 use Rattle.search.specs.declared.Plan.{Plan}
 use Rattle.search.specs.declared.Search.{Search}
-use Rattle.search.specs.Search.{CellFn, pointAt, cellAt, anyEdge, afterPasses, limitOf}
+use Rattle.search.specs.Search.{CellFn, axisPoint, cellAt, anyEdge, afterPasses, limitOf}
 
 -- ---- cells that are chosen from faces
 
@@ -36,7 +36,7 @@ cellOfPass f p q i j = cellAt f (afterPasses f p q .window) (p .n) i j
 
 -- face t of that cell, tried
 abbrev pub faceOfPass : CellFn → FaceFn → Plan → ℕ → ℕ → ℕ → ℕ → Tried
-faceOfPass f g p q i j t = g (pointAt (afterPasses f p q .window .m) (p .n) i) (pointAt (afterPasses f p q .window .s) (p .n) j) t
+faceOfPass f g p q i j t = g (axisPoint (afterPasses f p q .window .m) (p .n) i) (axisPoint (afterPasses f p q .window .s) (p .n) j) t
 
 -- face t of the cell (i, j) of pass q is one that the cell tries, and it qualifies
 pub record Qualifies (f : CellFn) (g : FaceFn) (p : Plan) (q i j t : ℕ) : Type 0 where
@@ -63,8 +63,8 @@ pub record ChosenFace (f : CellFn) (g : FaceFn) (p : Plan) (s : Search) : Type 0
   -- the cell found has the face's objective, its x and its marks
   pub is : s .found .cell ≡ cellFrom (faceOfPass f g p pass i j t) (cellOfPass f p pass i j .faces)
   -- and stands at the point (i, j) of that pass's grid
-  pub m : s .found .m ≡ pointAt (afterPasses f p pass .window .m) (p .n) i
-  pub ls : s .found .ls ≡ pointAt (afterPasses f p pass .window .s) (p .n) j
+  pub m : s .found .m ≡ axisPoint (afterPasses f p pass .window .m) (p .n) i
+  pub ls : s .found .ls ≡ axisPoint (afterPasses f p pass .window .s) (p .n) j
   -- marked where that is any edge of the grid
   pub edge : s .found .«on_edge» ≡ (anyEdge i (p .n - 1) || anyEdge j (p .n - 1))
 

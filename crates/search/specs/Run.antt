@@ -22,9 +22,9 @@ unfoldable pub fitFace : List Float → List Float → List Float → Limits →
 fitFace ks ws ts l m ls t = faceTried fitModel ks ws ts l m (expOf ls) t
 
 -- the sizes of document 01
-unfoldable pub sizesHold : Plan → Bool
-sizesHold p = leb (p .n) 255 && (leb (p .refinements) 1000 && leb (p .«max_recentres») 1000)
+unfoldable pub planSizesHold : Plan → Bool
+planSizesHold p = leb (p .n) 255 && (leb (p .refinements) 1000 && leb (p .«max_recentres») 1000)
 
 -- `run`; over a size nothing is searched
-unfoldable pub runOf : List Float → List Float → List Float → Limits → Plan → Search
-runOf ks ws ts l p = unless (sizesHold p) (startOf p) (searchOf (fitCell ks ws ts l) p)
+unfoldable pub plannedSearch : List Float → List Float → List Float → Limits → Plan → Search
+plannedSearch ks ws ts l p = unless (planSizesHold p) (startOf p) (searchOf (fitCell ks ws ts l) p)

@@ -25,12 +25,12 @@ CellFn = Float → Float → Cell
 -- ---- a pass: every cell of the window's grid, m outside
 
 -- point i of an axis of n
-abbrev pub pointAt : Axis → ℕ → ℕ → Float
-pointAt a n i = linspaceAt (a .lo) (a .hi) n i
+abbrev pub axisPoint : Axis → ℕ → ℕ → Float
+axisPoint a n i = linspaceAt (a .lo) (a .hi) n i
 
 -- the cell at (i, j) of the grid
 abbrev pub cellAt : CellFn → Window → ℕ → ℕ → ℕ → Cell
-cellAt f w n i j = f (pointAt (w .m) n i) (pointAt (w .s) n j)
+cellAt f w n i j = f (axisPoint (w .m) n i) (axisPoint (w .s) n j)
 
 -- a cell wins over the pass's best so far: it has a face, and there is none so far or its objective is smaller
 abbrev pub better : Cell → Cell → Bool
@@ -49,11 +49,11 @@ consider b c i j =
 abbrev pub noBest : PassBest
 noBest = record { cell = noCell; i = 0; j = 0; cells = 0; faces = 0 }
 
-unfoldable pub rowOf : CellFn → Window → ℕ → ℕ → PassBest → PassBest
-rowOf f w n i b = for 0 n (λ j b. consider b (cellAt f w n i j) i j) b
+unfoldable pub gridRow : CellFn → Window → ℕ → ℕ → PassBest → PassBest
+gridRow f w n i b = for 0 n (λ j b. consider b (cellAt f w n i j) i j) b
 
 unfoldable pub passOf : CellFn → Window → ℕ → PassBest
-passOf f w n = for 0 n (λ i b. rowOf f w n i b) noBest
+passOf f w n = for 0 n (λ i b. gridRow f w n i b) noBest
 
 -- ---- where the pass's best stands
 
@@ -68,8 +68,8 @@ anyEdge k last = eqb k 0 || eqb k last
 unfoldable pub placeOf : Plan → Window → PassBest → Place
 placeOf p w b =
     record {
-      m = pointAt (w .m) (p .n) (b .i);
-      ls = pointAt (w .s) (p .n) (b .j);
+      m = axisPoint (w .m) (p .n) (b .i);
+      ls = axisPoint (w .s) (p .n) (b .j);
       «m_edge» = openEdge (b .i) (p .n - 1) (w .m) (p .domain .m);
       «s_edge» = openEdge (b .j) (p .n - 1) (w .s) (p .domain .s);
       «on_any_edge» = anyEdge (b .i) (p .n - 1) || anyEdge (b .j) (p .n - 1);
@@ -111,7 +111,7 @@ recentred p s n a o =
 
 -- the first step of an axis
 abbrev pub stepOn : Axis → ℕ → Float
-stepOn a n = pointAt a n 1 -f a .lo
+stepOn a n = axisPoint a n 1 -f a .lo
 
 -- two steps either way of the best of all passes
 unfoldable pub narrowed : Plan → Window → Found → Window
@@ -158,15 +158,15 @@ countedOf n b =
     record { passes = n .passes + 1; recentres = n .recentres; shrinks = n .shrinks; cells = n .cells + b .cells; faces = n .faces + b .faces }
 
 -- the search ends in a refusal
-unfoldable pub refusedOf : Search → Counts → Search
-refusedOf s n = record { going = false; refused = true; window = s .window; smallest = s .smallest; found = s .found; counts = n }
+unfoldable pub searchRefused : Search → Counts → Search
+searchRefused s n = record { going = false; refused = true; window = s .window; smallest = s .smallest; found = s .found; counts = n }
 
 -- one pass, counted, and the move after it. A pass with no face refuses, whatever was found before
 unfoldable pub stepOf : CellFn → Plan → Search → Search
 stepOf f p s =
     let b = passOf f (s .window) (p .n) in
     let n = countedOf (s .counts) b in
-    cond (b .cell .some) (movedOf p s n b) (refusedOf s n)
+    cond (b .cell .some) (movedOf p s n b) (searchRefused s n)
 
 -- the first window is the whole domain
 unfoldable pub startOf : Plan → Search
@@ -181,12 +181,12 @@ startOf p =
     }
 
 -- a pass is made only while the search goes on
-abbrev pub nextOf : CellFn → Plan → ℕ → Search → Search
-nextOf f p q s = cond (s .going) (stepOf f p s) s
+abbrev pub passWhileGoing : CellFn → Plan → ℕ → Search → Search
+passWhileGoing f p q s = cond (s .going) (stepOf f p s) s
 
 -- the state after q passes, or, where the search ended earlier, at its end. Pass q, counted from 0, is made in the window of the state after q passes
 unfoldable pub afterPasses : CellFn → Plan → ℕ → Search
-afterPasses f p q = turns (nextOf f p) q 0 (startOf p)
+afterPasses f p q = turns (passWhileGoing f p) q 0 (startOf p)
 
 abbrev pub limitOf : Plan → ℕ
 limitOf p = p .refinements + 2 * p .«max_recentres» + 1

@@ -7,11 +7,11 @@ use Rattle.laws.specs.Floats.{+0}
 use Rattle.exponent.specs.Exp.{expOf}
 use Rattle.laws.specs.Room.{filledOn}
 use Rattle.search.specs.declared.Axis.{Axis}
-use Rattle.search.specs.Search.{pointAt}
+use Rattle.search.specs.Search.{axisPoint}
 
 -- at point j of n
 unfoldable pub sigmaAt : Axis → ℕ → ℕ → Float
-sigmaAt a n j = expOf (pointAt a n j)
+sigmaAt a n j = expOf (axisPoint a n j)
 
 -- at all of them, in room for 256
 unfoldable pub sigmasOf : Axis → ℕ → List Float

@@ -4,7 +4,7 @@ ghost use Prim.Native.Nat.{_^_, _≤_, _<_};
 ghost use lib.ListN.{length};
 ghost use Rattle.laws.specs.Room.{filledOn};
 ghost use Rattle.cell.specs.Cell.{noCell, innerOf};
-ghost use Rattle.search.specs.Search.{better, consider, rowOf, passOf};
+ghost use Rattle.search.specs.Search.{better, consider, gridRow, passOf};
 ghost use Rattle.search.specs.Run.{fitCell};
 ghost use Rattle.search.specs.Sigmas.{sigmaAt, sigmasOf};
 use crate::Axis;
@@ -88,7 +88,7 @@ fn row(
     b: PassBest,
 ) -> PassBest
     requires { ⌜ (n ≤ 255) × (b .cells < 2 ^ 50) × (b .faces < 2 ^ 50) × (now sigmas ≡ sigmasOf (w .s) n) × (length (now ys) ≡ 256) × (length (now hs) ≡ 256) ⌝ }
-    ensures { λ r. ⌜ (r ≡ rowOf (fitCell (now (ks .entry)) (now (ws .entry)) (now (ts .entry)) l) w n i b) × (length (now (ys .exit)) ≡ 256) × (length (now (hs .exit)) ≡ 256) ⌝ }
+    ensures { λ r. ⌜ (r ≡ gridRow (fitCell (now (ks .entry)) (now (ws .entry)) (now (ts .entry)) l) w n i b) × (length (now (ys .exit)) ≡ 256) × (length (now (hs .exit)) ≡ 256) ⌝ }
 {
     let m = points::linspace_at(w.m.lo, w.m.hi, n, i);
     let mut best = b;

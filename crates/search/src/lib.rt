@@ -6,7 +6,7 @@ pub mod points;
 ghost use mathlib.Core.Path.{_≡_};
 ghost use mathlib.Core.Bool.{true};
 ghost use Rattle.search.specs.Search.{startOf, stepOf, searchOf};
-ghost use Rattle.search.specs.Run.{fitCell, sizesHold, runOf};
+ghost use Rattle.search.specs.Run.{fitCell, planSizesHold, plannedSearch};
 ghost use Rattle.search.specs.Roomy.{Roomy};
 use cell::Cell;
 use cell::Limits;
@@ -117,7 +117,7 @@ fn start(p: Plan) -> Search
 
 // Passes until the search ends, or there were as many as the settings allow.
 fn searched(ks: &[f64], ws: &[f64], ts: &[f64], l: Limits, p: Plan) -> Search
-    requires { ⌜ sizesHold p ≡ true ⌝ }
+    requires { ⌜ planSizesHold p ≡ true ⌝ }
     ensures { λ r. ⌜ r ≡ searchOf (fitCell (now (ks .entry)) (now (ws .entry)) (now (ts .entry)) l) p ⌝ }
 {
     let limit = p.refinements + 2 * p.max_recentres + 1;
@@ -132,14 +132,14 @@ fn searched(ks: &[f64], ws: &[f64], ts: &[f64], l: Limits, p: Plan) -> Search
 }
 
 fn sizes_hold(p: Plan) -> bool
-    ensures { λ r. ⌜ r ≡ sizesHold p ⌝ }
+    ensures { λ r. ⌜ r ≡ planSizesHold p ⌝ }
 {
     (p.n <= 255) & ((p.refinements <= 1000) & (p.max_recentres <= 1000))
 }
 
 // The search of the fit; over a size nothing is searched.
 pub fn run(ks: &[f64], ws: &[f64], ts: &[f64], l: Limits, p: Plan) -> Search
-    ensures { λ r. ⌜ r ≡ runOf (now (ks .entry)) (now (ws .entry)) (now (ts .entry)) l p ⌝ }
+    ensures { λ r. ⌜ r ≡ plannedSearch (now (ks .entry)) (now (ws .entry)) (now (ts .entry)) l p ⌝ }
 {
     let sized = sizes_hold(p);
     if !sized {

@@ -1,7 +1,7 @@
 // After a pass: its counts, the best of the passes so far, and the next window.
 ghost use mathlib.Core.Path.{_≡_};
 ghost use Prim.Native.Nat.{_-_, _^_, _<_};
-ghost use Rattle.search.specs.Search.{openEdge, placeOf, improves, foundOf, around, growOf, recentred, stepOn, narrowed, shrunk, stopped, canRecentre, canShrink, movedOf, countedOf, refusedOf};
+ghost use Rattle.search.specs.Search.{openEdge, placeOf, improves, foundOf, around, growOf, recentred, stepOn, narrowed, shrunk, stopped, canRecentre, canShrink, movedOf, countedOf, searchRefused};
 use crate::Axis;
 use crate::Found;
 use crate::PassBest;
@@ -203,7 +203,7 @@ pub(crate) fn counted(n: Counts, b: PassBest) -> Counts
 }
 
 pub(crate) fn refuse(s: Search, n: Counts) -> Search
-    ensures { λ r. ⌜ r ≡ refusedOf s n ⌝ }
+    ensures { λ r. ⌜ r ≡ searchRefused s n ⌝ }
 {
     let window = s.window;
     let found = s.found;

@@ -8,7 +8,7 @@ use Rattle.slice.specs.declared.SviSlice.{SviSlice}
 use Rattle.slice.specs.declared.Evaluated.{Evaluated}
 use Rattle.slice.specs.declared.Evaluated.the-variants as evaluated
 use Rattle.slice.specs.declared.Level.the-variants as level
-use Rattle.slice.specs.Slice.{numberOf, domainNumber, rangeNumber, lowestOf, leeOf, levelOf, minimumOf, evalOf, evalRaw, judgedOf, valuesOf, valuesAt, wingOf, acrossOf, alongOf}
+use Rattle.slice.specs.Slice.{numberOf, domainNumber, rangeNumber, lowestOf, leeOf, levelIfGood, minimumOf, evalOf, evalRaw, judgedOf, valuesOf, valuesAt, wingOf, acrossOf, alongOf}
 
 -- with tau 1, and k from 0 to 1
 abbrev pub m6-slice : SviSlice
@@ -27,5 +27,5 @@ abbrev pub high : Float
 high = f64 0x4006_0000_0000_0000
 
 pub m6 : (minimumOf m6-slice ≡ level.Value low) × (wOf (evalOf m6-slice +0) ≡ low) × (wOf (evalOf m6-slice four) ≡ high)
-unfolding minimumOf levelOf evalOf numberOf domainNumber rangeNumber lowestOf leeOf absOf finite maxOf rootOf evalRaw judgedOf valuesOf valuesAt wingOf acrossOf alongOf hypotOf add sub mul div lt le ne eq ofBits
+unfolding minimumOf levelIfGood evalOf numberOf domainNumber rangeNumber lowestOf leeOf absOf finite maxOf rootOf evalRaw judgedOf valuesOf valuesAt wingOf acrossOf alongOf hypotOf add sub mul div lt le ne eq ofBits
 m6 = (refl, refl, refl)

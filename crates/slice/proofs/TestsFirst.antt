@@ -11,7 +11,7 @@ use Rattle.laws.proofs.Choices.{cond-ind, number-no}
 use Rattle.slice.specs.declared.SviSlice.{SviSlice}
 use Rattle.slice.specs.declared.Level.the-variants as level
 use Rattle.slice.specs.declared.Evaluated.the-variants as evaluated
-use Rattle.slice.specs.Slice.{rangeNumber, three, lowestOf, leeOf, leeBound, domainNumber, numberOf, levelOf, minimumOf, leeSlopeOf, evalOf}
+use Rattle.slice.specs.Slice.{rangeNumber, three, lowestOf, leeOf, leeBound, domainNumber, numberOf, levelIfGood, minimumOf, leeSlopeOf, evalOf}
 
 module _ (s : SviSlice) where
   abbrev OneOf : ℕ → Type 0
@@ -46,11 +46,11 @@ module _ (s : SviSlice) where
     number-21-to-28 = ⊎-elim (λ e. absurd (bad e)) (λ h. h) number
 
     pub minimum-refused : minimumOf s ≡ level.Refused (numberOf s)
-    unfolding minimumOf levelOf
+    unfolding minimumOf levelIfGood
     minimum-refused = sym (number-no _ level.Refused refl bad)
 
     pub lee-slope-refused : leeSlopeOf s ≡ level.Refused (numberOf s)
-    unfolding leeSlopeOf levelOf
+    unfolding leeSlopeOf levelIfGood
     lee-slope-refused = sym (number-no _ level.Refused refl bad)
 
     pub eval-refused : (k : Float) → evalOf s k ≡ evaluated.Refused (numberOf s)

@@ -124,16 +124,16 @@ evalRaw s k = unless (finite k) (evaluated.Refused 29) (judgedOf (s .b) (valuesO
 
 -- ---- the same of a slice that a caller may have written: 21 to 28 first
 
-unfoldable pub levelOf : SviSlice → Float → Level
-levelOf s v = unless (eqb (numberOf s) 0) (level.Refused (numberOf s)) (level.Value v)
+unfoldable pub levelIfGood : SviSlice → Float → Level
+levelIfGood s v = unless (eqb (numberOf s) 0) (level.Refused (numberOf s)) (level.Value v)
 
 -- `minimum`
 unfoldable pub minimumOf : SviSlice → Level
-minimumOf s = levelOf s (lowestOf s)
+minimumOf s = levelIfGood s (lowestOf s)
 
 -- `lee_slope`
 unfoldable pub leeSlopeOf : SviSlice → Level
-leeSlopeOf s = levelOf s (leeOf s)
+leeSlopeOf s = levelIfGood s (leeOf s)
 
 -- `eval`
 unfoldable pub evalOf : SviSlice → Float → Evaluated

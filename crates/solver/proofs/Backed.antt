@@ -12,7 +12,7 @@ use lib.Ieee.{Float, nan}
 use Rattle.laws.specs.Floats.{_+f_, _-f_, _*f_, _/f_, +0, at, finite}
 use Rattle.laws.proofs.Choices.{false-true}
 use Rattle.solver.specs.declared.Solved.{Solved}
-use Rattle.solver.specs.Solve.{entry, refused, tailOf, placed, backRowOf, backOf}
+use Rattle.solver.specs.Solve.{entry, refused, rightSum, placed, backRowOf, backOf}
 use Rattle.solver.specs.Rows.{Room, room, spot, tailIn, valueIn, backRowIn, backIn}
 use Rattle.solver.proofs.Views.{Stepped, Found}
 use Rattle.solver.proofs.Segments.{for-both}
@@ -32,8 +32,8 @@ record Both (n o row : ℕ) (s : Solved) (u : Room) : Type 0 where
 
 module _ (n o : ℕ) (m rhs t : List Float) (six : n + o ≡ 6) (st : Stepped n o m rhs t) where
   -- the same sum right of the diagonal
-  tails : (row : ℕ) (x y : List Float) → row < n → Agree n o (row + 1) x y → tailOf n m x row ≡ tailIn t y (row + o)
-  unfolding tailOf tailIn
+  tails : (row : ℕ) (x y : List Float) → row < n → Agree n o (row + 1) x y → rightSum n m x row ≡ tailIn t y (row + o)
+  unfolding rightSum tailIn
   tails row x y l a =
       for-both (λ j tail. tail +f entry m row j *f at x j) (λ j tail. tail +f spot t (row + o) j *f at y j) (λ (j : ℕ) (v w : Float). v ≡ w) (row + 1) n o
       (λ j v w h u e. ap₂ (λ (c d : Float). v +f c *f d) (st .entries row j (omega arith) (omega arith)) (a j (omega arith) (omega arith)) ∙ ap (λ (v : Float). v +f spot t (row + o) (j + o) *f at y (j + o)) e)
@@ -41,7 +41,7 @@ module _ (n o : ℕ) (m rhs t : List Float) (six : n + o ≡ 6) (st : Stepped n 
 
   -- the plain value of a row
   abbrev valueOf : List Float → ℕ → Float
-  valueOf x row = (at rhs row -f tailOf n m x row) /f entry m row row
+  valueOf x row = (at rhs row -f rightSum n m x row) /f entry m row row
 
   -- is the rows' value
   same-value : (row : ℕ) (x y : List Float) → row < n → Agree n o (row + 1) x y → valueOf x row ≡ valueIn t y (row + o)

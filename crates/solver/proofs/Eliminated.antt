@@ -24,7 +24,7 @@ use Rattle.solver.specs.Solve.{
   exchange,
   swapRows,
   swapped,
-  rowOf,
+  matrixRow,
   minusOf,
   factorOf,
   rowDone,
@@ -41,7 +41,7 @@ use Rattle.solver.proofs.Views.{Stands, Stepped}
 -- ---- the loops over one row
 
 -- the copy of a row holds its entries
-row-at : (m : List Float) (i j : ℕ) → j < 6 → at (rowOf m i) j ≡ entry m i j
+row-at : (m : List Float) (i j : ℕ) → j < 6 → at (matrixRow m i) j ≡ entry m i j
 unfolding filledOn
 row-at m i j l = filled-at (entry m i) nan 6 j (replicate 6 +0) (omega (arith, length-replicate 6 +0)) l
 
@@ -234,7 +234,7 @@ module _ (n o : ℕ) (six : n + o ≡ 6) (col : ℕ) (below : col < n) where
 
   -- the rows have changed places, and those below are to be cleared
   clearing-starts : (p : ℕ) (s : System) (t : List Float) → s .ok ≡ true → col ≤ p → p < n → Live n o col (s .m) (s .rhs) t
-      → Clearing n o col (rowOf (swapRows (s .m) col p) col) (col + 1) (swapped s col p) (swapIn (col + o) (p + o) t)
+      → Clearing n o col (matrixRow (swapRows (s .m) col p) col) (col + 1) (swapped s col p) (swapIn (col + o) (p + o) t)
   clearing-starts p s t e c d w =
       let l : Live n o col (swapRows (s .m) col p) (exchange (s .rhs) col p) (swapIn (col + o) (p + o) t) = swap-live p (s .m) (s .rhs) t c d w in
       record {
@@ -246,13 +246,13 @@ module _ (n o : ℕ) (six : n + o ≡ 6) (col : ℕ) (below : col < n) where
 
   -- the pivot is in row p: both refuse, or both go on
   raised-same : (p : ℕ) (s : System) (t : List Float) (b c : Bool) → b ≡ c → s .ok ≡ true → col ≤ p → p < n → Live n o col (s .m) (s .rhs) t
-      → Together n o (col + 1) (cond b (after false (s .m) (s .rhs)) (belowOf n col (rowOf (swapRows (s .m) col p) col) (swapped s col p)))
+      → Together n o (col + 1) (cond b (after false (s .m) (s .rhs)) (belowOf n col (matrixRow (swapRows (s .m) col p) col) (swapped s col p)))
       (clearedIn (col + o) (cond c (room false t) (room true (swapIn (col + o) (p + o) t))))
   unfolding clearedIn
   raised-same p s t true true h e c d w = record { ok = refl; live = λ k. false-true k }
   raised-same p s t false false h e c d w =
-      let k : Clearing n o col (rowOf (swapRows (s .m) col p) col) n (belowOf n col (rowOf (swapRows (s .m) col p) col) (swapped s col p)) (clearIn (col + o) (swapIn (col + o) (p + o) t)) =
-      below-same (rowOf (swapRows (s .m) col p) col) (swapped s col p) (swapIn (col + o) (p + o) t) (clearing-starts p s t e c d w) in
+      let k : Clearing n o col (matrixRow (swapRows (s .m) col p) col) n (belowOf n col (matrixRow (swapRows (s .m) col p) col) (swapped s col p)) (clearIn (col + o) (swapIn (col + o) (p + o) t)) =
+      below-same (matrixRow (swapRows (s .m) col p) col) (swapped s col p) (swapIn (col + o) (p + o) t) (clearing-starts p s t e c d w) in
       record { ok = k .ok; live = λ q. k .live }
   raised-same p s t true false h e c d w = false-true (sym h)
   raised-same p s t false true h e c d w = false-true h

@@ -27,7 +27,7 @@ use Rattle.solver.specs.Solve.{
   exchange,
   swapRows,
   swapped,
-  rowOf,
+  matrixRow,
   minusOf,
   factorOf,
   rowDone,
@@ -36,13 +36,13 @@ use Rattle.solver.specs.Solve.{
   columnOf,
   afterColumns,
   eliminatedOf,
-  tailOf,
+  rightSum,
   placed,
   backRowOf,
   backOf,
   backIf,
   underOf,
-  scaledOf,
+  solvedAtScale,
   scaleOf,
   solveOf,
 }
@@ -79,7 +79,7 @@ below-ok n col values s =
 
 -- a system that stands, whose pivot in a column is a NaN, is not refused there: the pivot's row comes up, and the rows below are cleared
 pub nan-pivot-goes-on : (n : ℕ) (limit : Float) (col : ℕ) (s : System) → s .ok ≡ true → isNan (pivotOf n (s .m) col) ≡ true
-    → columnOf n limit col s ≡ belowOf n col (rowOf (swapRows (s .m) col (pivotRowOf n (s .m) col)) col) (swapped s col (pivotRowOf n (s .m) col))
+    → columnOf n limit col s ≡ belowOf n col (matrixRow (swapRows (s .m) col (pivotRowOf n (s .m) col)) col) (swapped s col (pivotRowOf n (s .m) col))
 unfolding columnOf pivoted
 nan-pivot-goes-on n limit col s stands h = sym (if-true s stands (if-false _ (not-at-most (pivotOf n (s .m) col) limit h) refl))
 
@@ -167,7 +167,7 @@ column-brings n limit col s c h = by (s .ok) refl
     by : (b : Bool) → s .ok ≡ b → Marred (col * 6 + col) (columnOf n limit col s)
     by true stands w =
         subst (λ (t : System). NanAt (col * 6 + col) (t .m)) (sym (nan-pivot-goes-on n limit col s stands h))
-        (below-keeps (col * 6 + col) n col (rowOf (swapRows (s .m) col (pivotRowOf n (s .m) col)) col) (swapped s col (pivotRowOf n (s .m) col)) (omega arith)
+        (below-keeps (col * 6 + col) n col (matrixRow (swapRows (s .m) col (pivotRowOf n (s .m) col)) col) (swapped s col (pivotRowOf n (s .m) col)) (omega arith)
         (swap-brings col (pivotRowOf n (s .m) col) (s .m) c (pivot-from n col (s .m)) h))
     by false fallen w = subst (Marred (col * 6 + col)) (if-false (pivoted n limit col (pivotRowOf n (s .m) col) s) fallen refl) (λ w. false-true (sym fallen ∙ w)) w
 
@@ -177,7 +177,7 @@ unfolding columnOf pivoted
 column-keeps k n limit col s p h =
     cond-test (Marred k) (s .ok)
     (λ stands. cond-ind (Marred k) (le (absOf (pivotOf n (s .m) col)) limit) (λ w. false-true w)
-    (λ w. below-keeps k n col (rowOf (swapRows (s .m) col (pivotRowOf n (s .m) col)) col) (swapped s col (pivotRowOf n (s .m) col)) (omega arith)
+    (λ w. below-keeps k n col (matrixRow (swapRows (s .m) col (pivotRowOf n (s .m) col)) col) (swapped s col (pivotRowOf n (s .m) col)) (omega arith)
     (swap-keeps k col (pivotRowOf n (s .m) col) (s .m) p (omega (arith, pivot-from n col (s .m))) (h stands))))
     (λ fallen. h)
 
@@ -215,7 +215,7 @@ row-stops : (n : ℕ) (m rhs : List Float) (row : ℕ) (t : Solved) → NanAt (r
 unfolding backRowOf placed
 row-stops n m rhs row t h =
     cond-test (λ (t : Solved). t .ok ≡ false) (t .ok)
-    (λ stands. sym (ap (λ (t : Solved). t .ok) (if-false (record { ok = true; x = set (t .x) row _ }) (over-nan (at rhs row -f tailOf n m (t .x) row) (entry m row row) h) refl))) (λ fallen. fallen)
+    (λ stands. sym (ap (λ (t : Solved). t .ok) (if-false (record { ok = true; x = set (t .x) row _ }) (over-nan (at rhs row -f rightSum n m (t .x) row) (entry m row row) h) refl))) (λ fallen. fallen)
 
 -- and a refusal is passed on
 row-fallen : (n : ℕ) (m rhs : List Float) (row : ℕ) (t : Solved) → t .ok ≡ false → backRowOf n m rhs row t .ok ≡ false
@@ -252,7 +252,7 @@ nan-pivot-refused-under n m rhs limit col c h =
 -- and under the limit of tol times the scale
 pub nan-pivot-refused : (n : ℕ) (m rhs : List Float) (tol : Float) (col : ℕ) → col < n → isNan (pivotOf n (afterColumns n (tol *f scaleOf n m) col (standing m rhs) .m) col) ≡ true
     → solveOf n m rhs tol ≡ refused
-unfolding solveOf scaledOf
+unfolding solveOf solvedAtScale
 nan-pivot-refused n m rhs tol col c h =
     cond-test (λ (t : Solved). t ≡ refused) (leb n 6)
     (λ size. cond-ind (λ (t : Solved). t ≡ refused) (positive (scaleOf n m)) (none n (tol *f scaleOf n m) m rhs col (leb-true n 6 size) c h) refl) (λ size. refl)

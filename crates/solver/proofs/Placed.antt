@@ -14,7 +14,7 @@ use Rattle.laws.specs.Floats.{+0, at}
 use Rattle.laws.proofs.Loops.{for-ind, for-keeps, below-next}
 use Rattle.solver.specs.declared.Solved.{Solved}
 use Rattle.solver.specs.Solve.{entry, refused}
-use Rattle.solver.specs.Rows.{Room, spot, placedRow, placedOf, firstOf}
+use Rattle.solver.specs.Rows.{Room, spot, placedRow, placedOf, frontOf}
 use Rattle.solver.proofs.Views.{Stands, Found}
 use Rattle.solver.proofs.Solutions.{Sound}
 
@@ -130,13 +130,13 @@ module _ (n o : ℕ) (x y : List Float) (six : n + o ≡ 6) (values : (i : ℕ) 
   taken = spread (λ i. i) (λ i. at x (6 - n + i)) n (replicate 6 +0)
 
   -- six numbers
-  first-length : length (firstOf n x) ≡ 6
-  unfolding firstOf
+  first-length : length (frontOf n x) ≡ 6
+  unfolding frontOf
   first-length = spread-length (λ i. i) (λ i. at x (6 - n + i)) n (replicate 6 +0) ∙ length-replicate 6 +0
 
   -- each is the plain answer's
-  first-at : ((i : ℕ) → n ≤ i → i < 6 → at y i ≡ +0) → (i : ℕ) → i < 6 → at (firstOf n x) i ≡ at y i
-  unfolding firstOf
+  first-at : ((i : ℕ) → n ≤ i → i < 6 → at y i ≡ +0) → (i : ℕ) → i < 6 → at (frontOf n x) i ≡ at y i
+  unfolding frontOf
   first-at beyond i l = go (ltb i n) refl
     where
       go : (b : Bool) → ltb i n ≡ b → at taken i ≡ at y i
@@ -149,10 +149,10 @@ module _ (n o : ℕ) (x y : List Float) (six : n + o ≡ 6) (values : (i : ℕ) 
           spread-other (λ i. i) (λ i. at x (6 - n + i)) n nan (replicate 6 +0) i (λ j w z. omega arith) ∙ getD-replicate 6 i +0 nan l ∙ sym (beyond i u l)
 
 -- what is found in the rows is the plain answer
-pub first-found : (n o : ℕ) (s : Solved) (u : Room) → n + o ≡ 6 → Found n o s u → Sound n s → s .ok ≡ true → record { x = firstOf n (u .m); ok = true } ≡ s
+pub first-found : (n o : ℕ) (s : Solved) (u : Room) → n + o ≡ 6 → Found n o s u → Sound n s → s .ok ≡ true → record { x = frontOf n (u .m); ok = true } ≡ s
 first-found n o s u six f p h =
     let long = first-length n o (u .m) (s .x) six (f .values h) in
-    let same = ext-getD nan (firstOf n (u .m)) (s .x) (long ∙ sym (p .six)) (λ i l. first-at n o (u .m) (s .x) six (f .values h) (p .beyond) i (omega (arith, long))) in
+    let same = ext-getD nan (frontOf n (u .m)) (s .x) (long ∙ sym (p .six)) (λ i l. first-at n o (u .m) (s .x) six (f .values h) (p .beyond) i (omega (arith, long))) in
     ap₂ (λ (x : List Float) (ok : Bool). record { x = x; ok = ok }) same (sym h)
 
 -- and a refusal is the plain one

@@ -14,7 +14,7 @@ use Rattle.laws.specs.Floats.{+0, _-f_, _*f_, _/f_, at, finite, positive}
 use Rattle.laws.proofs.Loops.{for-keeps}
 use Rattle.laws.proofs.Choices.{cond-ind, false-true}
 use Rattle.solver.specs.declared.Solved.{Solved}
-use Rattle.solver.specs.Solve.{System, refused, standing, entry, tailOf, placed, backRowOf, backOf, backIf, eliminatedOf, scaledOf, scaleOf, solveOf}
+use Rattle.solver.specs.Solve.{System, refused, standing, entry, rightSum, placed, backRowOf, backOf, backIf, eliminatedOf, solvedAtScale, scaleOf, solveOf}
 
 -- the six numbers of an answer in n unknowns
 pub record Sound (n : ℕ) (t : Solved) : Type 0 where
@@ -61,7 +61,7 @@ back-sound : (n : ℕ) (m rhs : List Float) → n ≤ 6 → Sound n (backOf n m 
 unfolding backOf backRowOf
 back-sound n m rhs l =
     for-keeps (Sound n) _ n
-    (λ k h t p. cond-ind (Sound n) (t .ok) (placed-sound n (n - 1 - k) ((at rhs (n - 1 - k) -f tailOf n m (t .x) (n - 1 - k)) /f entry m (n - 1 - k) (n - 1 - k)) t (omega arith) (omega arith) p) p) _ (starts n true)
+    (λ k h t p. cond-ind (Sound n) (t .ok) (placed-sound n (n - 1 - k) ((at rhs (n - 1 - k) -f rightSum n m (t .x) (n - 1 - k)) /f entry m (n - 1 - k) (n - 1 - k)) t (omega arith) (omega arith) p) p) _ (starts n true)
 
 -- of a system that was eliminated, or refused
 pub eliminated-sound : (n : ℕ) (s : System) → n ≤ 6 → Sound n (backIf n s)
@@ -70,13 +70,13 @@ eliminated-sound n s l = cond-ind (Sound n) (s .ok) (back-sound n _ _ l) (starts
 
 -- of every system whatever
 pub solve-sound : (n : ℕ) (m rhs : List Float) (tol : Float) → Sound n (solveOf n m rhs tol)
-unfolding solveOf scaledOf
+unfolding solveOf solvedAtScale
 solve-sound n m rhs tol = go (leb n 6) refl
   where
     s : Float
     s = scaleOf n m
 
-    go : (b : Bool) → leb n 6 ≡ b → Sound n (unless b refused (scaledOf n m rhs tol s))
+    go : (b : Bool) → leb n 6 ≡ b → Sound n (unless b refused (solvedAtScale n m rhs tol s))
     go true e =
         cond-ind (Sound n) (positive s) (eliminated-sound n (eliminatedOf n (tol *f s) (standing m rhs)) (leb-true n 6 e)) (starts n false)
     go false e = starts n false

@@ -20,7 +20,7 @@ use Rattle.laws.proofs.Floats.{nan-test}
 use Rattle.laws.proofs.Loops.{again, halted}
 use Rattle.laws.proofs.Order.{lt-le-trans, lt-or, lt→le}
 use Rattle.solver.specs.Solve.{entry, ranked, rowScaleOf, exchange}
-use Rattle.solver.specs.Rows.{Room, room, pivotIn, swapIn, clearIn, raisedIn, clearedIn, columnIn, fromIn}
+use Rattle.solver.specs.Rows.{NotBelowZero, Room, room, pivotIn, swapIn, clearIn, raisedIn, clearedIn, columnIn, fromIn}
 
 cond-same : {A : Type 0} {x : A} (t : Bool) → cond t x x ≡ x
 cond-same true = refl
@@ -125,14 +125,9 @@ module _ (x y a b : Float) (f : a ≡ unsignedOf x) (g : b ≡ unsignedOf y) whe
 abbrev pub larger : Float → Float → Float
 larger a b = cond (lt a b) b a
 
--- a number that is not below zero
-pub record Sized (a : Float) : Type 0 where
-  pub number : isNan a ≡ false
-  pub above : lt a +0 ≡ false
-
-pub zero-sized : Sized +0
+pub zero-not-below : NotBelowZero +0
 unfolding isNan lt ofBits
-zero-sized = record { number = refl; above = refl }
+zero-not-below = record { number = refl; above = refl }
 
 below-number : (a b : Float) → lt a b ≡ true → isNan b ≡ false
 unfolding lt isNan
@@ -166,22 +161,22 @@ pub larger-max : (a b : Float) → isNan a ≡ false → larger a b ≡ maxOf a 
 unfolding maxOf
 larger-max a b h = sym (ap (λ (t : Bool). cond (lt a b || t) b a) (nan-test a ∙ h) ∙ ap (λ (t : Bool). cond t b a) (or-false (lt a b)))
 
--- one entry: the code's step is the definition's, and keeps the number sized
-pub larger-step : (a x : Float) → Sized a → larger a (unsignedOf x) ≡ maxOf a (absOf x)
+-- one entry: the code's step is the definition's, and keeps the number not below zero
+pub larger-step : (a x : Float) → NotBelowZero a → larger a (unsignedOf x) ≡ maxOf a (absOf x)
 larger-step a x s =
     unsigned-ind (λ (u v : Float). larger a u ≡ larger a v) (λ y. refl)
     (λ e. ap (λ (t : Bool). cond t (fin true 0 e) a) (not-below-zero a e (s .above)) ∙ sym (ap (λ (t : Bool). cond t (fin false 0 e) a) (sym (zero-lt e a) ∙ not-below-zero a e (s .above))))
     x
     ∙ larger-max a (absOf x) (s .number)
 
-larger-sized : (a b : Float) → Sized a → lt b +0 ≡ false → Sized (larger a b)
-larger-sized a b s h = cond-test Sized (lt a b) (λ l. record { number = below-number a b l; above = h }) (λ l. s)
+larger-not-below : (a b : Float) → NotBelowZero a → lt b +0 ≡ false → NotBelowZero (larger a b)
+larger-not-below a b s h = cond-test NotBelowZero (lt a b) (λ l. record { number = below-number a b l; above = h }) (λ l. s)
 
-pub step-sized : (a x : Float) → Sized a → Sized (maxOf a (absOf x))
-step-sized a x s = subst Sized (larger-max a (absOf x) (s .number)) (larger-sized a (absOf x) s (abs-above x))
+pub step-not-below : (a x : Float) → NotBelowZero a → NotBelowZero (maxOf a (absOf x))
+step-not-below a x s = subst NotBelowZero (larger-max a (absOf x) (s .number)) (larger-not-below a (absOf x) s (abs-above x))
 
-pub both-sized : (a b : Float) → Sized a → Sized b → Sized (larger a b)
-both-sized a b s t = larger-sized a b s (t .above)
+pub both-not-below : (a b : Float) → NotBelowZero a → NotBelowZero b → NotBelowZero (larger a b)
+both-not-below a b s t = larger-not-below a b s (t .above)
 
 -- what is at least as large as something is not below what that is not below
 pub not-lt-trans : (a b c : Float) → isNan b ≡ false → lt a b ≡ false → lt b c ≡ false → lt a c ≡ false
@@ -209,22 +204,22 @@ larger-assoc a b c n = go (lt a b) (lt b c) refl refl
     go false false h k = rw (not-lt-trans a b c n h k, h) refl
 
 -- a row from a on is the larger of a and the row from +0 on
-row-turns : (m : List Float) (i k j : ℕ) (a : Float) → Sized a → turns (λ j acc. maxOf acc (absOf (entry m i j))) k j a ≡ larger a (turns (λ j acc. maxOf acc (absOf (entry m i j))) k j +0)
+row-turns : (m : List Float) (i k j : ℕ) (a : Float) → NotBelowZero a → turns (λ j acc. maxOf acc (absOf (entry m i j))) k j a ≡ larger a (turns (λ j acc. maxOf acc (absOf (entry m i j))) k j +0)
 unfolding turns
 row-turns m i zero j a s = sym (ap (λ (t : Bool). cond t +0 a) (s .above))
 row-turns m i (suc k) j a s =
     let y = absOf (entry m i j) in
     let rest = turns (λ j acc. maxOf acc (absOf (entry m i j))) k (j + 1) +0 in
-    row-turns m i k (j + 1) (maxOf a y) (step-sized a (entry m i j) s)
+    row-turns m i k (j + 1) (maxOf a y) (step-not-below a (entry m i j) s)
     ∙ ap (λ (b : Float). larger b rest) (sym (larger-max a y (s .number)) ∙ from-zero (lt +0 y) refl)
-    ∙ larger-assoc a (larger +0 y) rest (larger-sized +0 y zero-sized (abs-above (entry m i j)) .number)
-    ∙ ap (larger a) (ap (λ (b : Float). larger b rest) (larger-max +0 y (zero-sized .number)) ∙ sym (row-turns m i k (j + 1) (maxOf +0 y) (step-sized +0 (entry m i j) zero-sized)))
+    ∙ larger-assoc a (larger +0 y) rest (larger-not-below +0 y zero-not-below (abs-above (entry m i j)) .number)
+    ∙ ap (larger a) (ap (λ (b : Float). larger b rest) (larger-max +0 y (zero-not-below .number)) ∙ sym (row-turns m i k (j + 1) (maxOf +0 y) (step-not-below +0 (entry m i j) zero-not-below)))
   where
     from-zero : (t : Bool) → lt +0 (absOf (entry m i j)) ≡ t → larger a (absOf (entry m i j)) ≡ larger a (cond t (absOf (entry m i j)) +0)
     from-zero true h = refl
-    from-zero false h = rw (not-lt-trans a +0 (absOf (entry m i j)) (zero-sized .number) (s .above) h, s .above) refl
+    from-zero false h = rw (not-lt-trans a +0 (absOf (entry m i j)) (zero-not-below .number) (s .above) h, s .above) refl
 
-pub row-from : (n : ℕ) (m : List Float) (i : ℕ) (a : Float) → Sized a → larger a (rowScaleOf n m i +0) ≡ rowScaleOf n m i a
+pub row-from : (n : ℕ) (m : List Float) (i : ℕ) (a : Float) → NotBelowZero a → larger a (rowScaleOf n m i +0) ≡ rowScaleOf n m i a
 unfolding rowScaleOf
 row-from n m i a s = sym (row-turns m i (n - 0) 0 a s)
 

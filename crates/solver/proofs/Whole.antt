@@ -12,8 +12,8 @@ use Rattle.laws.specs.Loop.{turns}
 use Rattle.laws.specs.Floats.{+0, _*f_, finite, positive}
 use Rattle.laws.proofs.Choices.{both, false-true, if-true, if-false}
 use Rattle.solver.specs.declared.Solved.{Solved}
-use Rattle.solver.specs.Solve.{standing, refused, scaleOf, eliminatedOf, backIf, scaledOf, solveOf}
-use Rattle.solver.specs.Rows.{Room, room, solvedIn, placedOf, firstOf}
+use Rattle.solver.specs.Solve.{standing, refused, scaleOf, eliminatedOf, backIf, solvedAtScale, solveOf}
+use Rattle.solver.specs.Rows.{Room, room, solvedIn, placedOf, frontOf}
 use Rattle.solver.proofs.Views.{Found}
 use Rattle.solver.proofs.Solutions.{eliminated-sound}
 use Rattle.solver.proofs.Placed.{placed-stands, placed-length, first-found, none-found}
@@ -36,12 +36,12 @@ sized-by-scale n m scale l e h = (some n m (sym (ap positive e) ∙ h), l)
 
 -- no positive scale
 pub unscaled : (n : ℕ) (m rhs : List Float) (tol scale : Float) → n ≤ 6 → scale ≡ scaleOf n m → positive scale ≡ false → refused ≡ solveOf n m rhs tol
-unfolding solveOf scaledOf
+unfolding solveOf solvedAtScale
 unscaled n m rhs tol scale l e h = if-true refused (le-leb n 6 l) (if-false _ (sym (ap positive e) ∙ h) refl)
 
 -- and one leads to the elimination
 pub scaled : (n : ℕ) (m rhs : List Float) (tol scale : Float) → n ≤ 6 → scale ≡ scaleOf n m → positive scale ≡ true → backIf n (eliminatedOf n (tol *f scale) (standing m rhs)) ≡ solveOf n m rhs tol
-unfolding solveOf scaledOf
+unfolding solveOf solvedAtScale
 scaled n m rhs tol scale six e pos =
     if-true refused (le-leb n 6 six)
     (if-true refused (sym (ap positive e) ∙ pos) (ap (λ (s : Float). backIf n (eliminatedOf n (tol *f s) (standing m rhs))) e))
@@ -61,7 +61,7 @@ module _ (n : ℕ) (m rhs : List Float) (limit : Float) (sizes : (1 ≤ n) × (n
       (placed-length n o m rhs sum) (length-replicate 6 +0) (placed-stands n o m rhs sum))
 
   -- the rows were solved, and their unknowns taken out
-  pub accepts : (t x y : List Float) (r : Bool) → t ≡ placedOf n m rhs → room r x ≡ solvedIn n limit t (replicate 6 +0) → r ≡ true → y ≡ firstOf n x → record { x = y; ok = true } ≡ answer
+  pub accepts : (t x y : List Float) (r : Bool) → t ≡ placedOf n m rhs → room r x ≡ solvedIn n limit t (replicate 6 +0) → r ≡ true → y ≡ frontOf n x → record { x = y; ok = true } ≡ answer
   accepts t x y r p q h k =
       let f = found t (room r x) p q in
       let sum : n + (6 - n) ≡ 6 = omega (arith, sizes .1) in

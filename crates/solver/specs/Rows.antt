@@ -1,15 +1,21 @@
 -- The elimination as the code does it. No reader has to believe this: no public contract cites it, and proofs/Same and proofs/Whole show that its answers are those of Solve. Definitions only.
 -- Six rows of eight numbers, in which a system of n unknowns stands in the last n rows and columns, with its right side in column 6 of each row; column 7 is not used.
+use mathlib.Core.Path.{_≡_}
 use mathlib.Core.Bool.{Bool, true, false, cond}
 use mathlib.Core.List.{List}
 use Prim.Native.Nat.{ℕ, _+_, _-_, _*_}
 use lib.Dec.{leb}
 use lib.ListN.{set, replicate}
-use lib.Ieee.{Float, le, eq}
+use lib.Ieee.{Float, lt, le, eq, isNan}
 use Rattle.laws.specs.Loop.{for}
 use Rattle.laws.specs.Choice.{unless}
 use Rattle.laws.specs.Floats.{_+f_, _-f_, _*f_, _/f_, +0, at, absOf, finite}
 use Rattle.solver.specs.Solve.{ranked, exchange}
+
+-- a number that is not below zero: what a scale is, from its first step on
+pub record NotBelowZero (a : Float) : Type 0 where
+  pub number : isNan a ≡ false
+  pub above : lt a +0 ≡ false
 
 -- a list of numbers, and whether it still stands
 pub record Room : Type 0 where
@@ -92,5 +98,5 @@ placedRow n m i t = for 0 n (λ j t. set t ((6 - n + i) * 8 + (6 - n + j)) (at m
 unfoldable pub placedOf : ℕ → List Float → List Float → List Float
 placedOf n m rhs = for 0 n (λ i t. set (placedRow n m i t) ((6 - n + i) * 8 + 6) (at rhs i)) (replicate 48 +0)
 
-unfoldable pub firstOf : ℕ → List Float → List Float
-firstOf n x = for 0 n (λ i r. set r i (at x (6 - n + i))) (replicate 6 +0)
+unfoldable pub frontOf : ℕ → List Float → List Float
+frontOf n x = for 0 n (λ i r. set r i (at x (6 - n + i))) (replicate 6 +0)

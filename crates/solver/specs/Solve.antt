@@ -66,8 +66,8 @@ swapped s a b = after (s .ok) (swapRows (s .m) a b) (exchange (s .rhs) a b)
 -- ---- the elimination
 
 -- a copy of row i: `pivot_values`
-abbrev pub rowOf : List Float → ℕ → List Float
-rowOf m i = for 0 6 (λ j p. set p j (entry m i j)) (replicate 6 +0)
+abbrev pub matrixRow : List Float → ℕ → List Float
+matrixRow m i = for 0 6 (λ j p. set p j (entry m i j)) (replicate 6 +0)
 
 -- from column col on, the row less the factor times the pivot values
 unfoldable pub minusOf : ℕ → ℕ → List Float → ℕ → Float → List Float → List Float
@@ -91,7 +91,7 @@ belowOf n col values s = for (col + 1) n (λ row s. rowDone n col values row (fa
 unfoldable pub pivoted : ℕ → Float → ℕ → ℕ → System → System
 pivoted n limit col p s =
     cond (le (absOf (entry (s .m) p col)) limit) (after false (s .m) (s .rhs))
-    (belowOf n col (rowOf (swapRows (s .m) col p) col) (swapped s col p))
+    (belowOf n col (matrixRow (swapRows (s .m) col p) col) (swapped s col p))
 
 -- one column; a refused system is passed on
 unfoldable pub columnOf : ℕ → Float → ℕ → System → System
@@ -107,15 +107,15 @@ eliminatedOf n limit s = afterColumns n limit n s
 -- ---- the substitution back, from the last row up
 
 -- the sum of the row's products right of the diagonal, from the left, +0 to begin with
-unfoldable pub tailOf : ℕ → List Float → List Float → ℕ → Float
-tailOf n m x row = for (row + 1) n (λ j tail. tail +f entry m row j *f at x j) +0
+unfoldable pub rightSum : ℕ → List Float → List Float → ℕ → Float
+rightSum n m x row = for (row + 1) n (λ j tail. tail +f entry m row j *f at x j) +0
 
 -- a value that is not finite refuses
 unfoldable pub placed : ℕ → Float → Solved → Solved
 placed row value t = unless (finite value) refused (record { ok = true; x = set (t .x) row value })
 
 unfoldable pub backRowOf : ℕ → List Float → List Float → ℕ → Solved → Solved
-backRowOf n m rhs row t = cond (t .ok) (placed row ((at rhs row -f tailOf n m (t .x) row) /f entry m row row) t) t
+backRowOf n m rhs row t = cond (t .ok) (placed row ((at rhs row -f rightSum n m (t .x) row) /f entry m row row) t) t
 
 unfoldable pub backOf : ℕ → List Float → List Float → Solved
 backOf n m rhs = for 0 n (λ k t. backRowOf n m rhs (n - 1 - k) t) (record { ok = true; x = replicate 6 +0 })
@@ -129,9 +129,9 @@ backIf n s = unless (s .ok) refused (backOf n (s .m) (s .rhs))
 unfoldable pub underOf : ℕ → List Float → List Float → Float → Solved
 underOf n m rhs limit = unless (ltb 0 n && leb n 6) refused (backIf n (eliminatedOf n limit (standing m rhs)))
 
-unfoldable pub scaledOf : ℕ → List Float → List Float → Float → Float → Solved
-scaledOf n m rhs tol scale = unless (positive scale) refused (backIf n (eliminatedOf n (tol *f scale) (standing m rhs)))
+unfoldable pub solvedAtScale : ℕ → List Float → List Float → Float → Float → Solved
+solvedAtScale n m rhs tol scale = unless (positive scale) refused (backIf n (eliminatedOf n (tol *f scale) (standing m rhs)))
 
 -- m x = rhs in n unknowns; a size above 6 is refused, and so is 0, whose scale is no positive one
 unfoldable pub solveOf : ℕ → List Float → List Float → Float → Solved
-solveOf n m rhs tol = unless (leb n 6) refused (scaledOf n m rhs tol (scaleOf n m))
+solveOf n m rhs tol = unless (leb n 6) refused (solvedAtScale n m rhs tol (scaleOf n m))

@@ -4,11 +4,9 @@ mod rows;
 
 ghost use mathlib.Core.Path.{_≡_};
 ghost use Prim.Native.Nat.{_+_, _≤_, _<_};
-ghost use mathlib.Core.Bool.{false, cond};
-ghost use lib.Ieee.{isNan, lt};
 ghost use Rattle.laws.specs.Floats.{+0};
 ghost use Rattle.solver.specs.Solve.{rowScaleOf, scaleOf, underOf, solveOf};
-ghost use Rattle.solver.specs.Rows.{placedRow, placedOf, firstOf};
+ghost use Rattle.solver.specs.Rows.{NotBelowZero, placedRow, placedOf, frontOf};
 
 // The unknowns, and whether there is a solution; what is no unknown is 0. The six numbers come first: behind the bool they would be copied from an odd address.
 pub struct Solved {
@@ -16,22 +14,15 @@ pub struct Solved {
     pub ok: bool,
 }
 
-// Rust's max where a is no NaN: one test less.
-fn larger(a: f64, b: f64) -> f64
-    ensures { λ r. ⌜ r ≡ cond (lt a b) b a ⌝ }
-{
-    bits::pick(a < b, b, a)
-}
-
 // The largest magnitude of a row, from +0 on: no row waits for the one before. A -0 is not above +0, so its sign may stay.
 fn row_scale(m: &[f64; 36], n: usize, i: usize) -> f64
     requires { ⌜ (n ≤ 6) × (i < 6) ⌝ }
-    ensures { λ r. ⌜ (r ≡ rowScaleOf n (now (m .entry)) i +0) × (isNan r ≡ false) × (lt r +0 ≡ false) ⌝ }
+    ensures { λ r. ⌜ (r ≡ rowScaleOf n (now (m .entry)) i +0) × NotBelowZero r ⌝ }
 {
     let mut acc = 0.0;
     for j in 0..n {
         let k = i * 6 + j;
-        acc = larger(acc, bits::unsigned(m[k]));
+        acc = bits::larger(acc, bits::unsigned(m[k]));
     }
     acc
 }
@@ -42,7 +33,7 @@ fn scale_of(m: &[f64; 36], n: usize) -> f64
 {
     let mut acc = 0.0;
     for i in 0..n {
-        acc = larger(acc, row_scale(m, n, i));
+        acc = bits::larger(acc, row_scale(m, n, i));
     }
     acc
 }
@@ -93,7 +84,7 @@ fn laid(m: &[f64; 36], rhs: &[f64; 6], n: usize) -> [f64; 48]
 // The last n of six numbers, first.
 fn first(x: &[f64; 6], n: usize) -> [f64; 6]
     requires { ⌜ n ≤ 6 ⌝ }
-    ensures { λ r. ⌜ r ≡ firstOf n (now (x .entry)) ⌝ }
+    ensures { λ r. ⌜ r ≡ frontOf n (now (x .entry)) ⌝ }
 {
     let mut r = [0.0; 6];
     for i in 0..n {

@@ -34,7 +34,7 @@ use Rattle.surface.specs.declared.types.Bracket.the-variants.{Segment, S
 use Rattle.surface.specs.declared.types.Region.the-variants as region
 use Rattle.surface.specs.Runs.{sliceAt, tausOf, checkRun}
 use Rattle.surface.specs.Lookup.{nodeTolerance, beforeOf, afterOf, toleranceOf, nearOf, nearAt, nodeOf, beyondAt, beyondOf, onNode, shortOf, insideOf, lookupOf, bracketOf}
-use Rattle.surface.specs.Surface.{bothHold, regionBy, regionIn, mixedOf, grownOf, blendOf, scaledOf, segmentOf, firstOf, varianceIn, varianceAt, tolsOf, bracketIn, bracketRun, regionRun, totalRun}
+use Rattle.surface.specs.Surface.{bothHold, regionBy, regionIn, mixedOf, shortScaled, blendOf, shortIn, segmentOf, shortFrom, varianceIn, varianceAt, tolsOf, bracketIn, bracketRun, regionRun, totalRun}
 use Rattle.surface.specs.Last.{lastTolerance, BeyondLast, TausFit}
 use Rattle.surface.proofs.Spans.{from-true, to-false, positive-no-nan, not-below, positive-of, gap-units, quarter-signed, out-of-reach, within-any}
 use Rattle.surface.proofs.ValidRun.{tau-positive, Valid, valid-run}
@@ -117,8 +117,8 @@ blend-no (evaluated.Refused m) h x gap p q e = p (let z : m ≡ 37 = cc in ap ev
 blend-no (evaluated.At l) (evaluated.Refused m) x gap p q e = q (let z : m ≡ 37 = cc in ap evaluated.Refused z)
 blend-no (evaluated.At l) (evaluated.At h) x gap p q e = total-no _ _ _ _ e
 
-scaled-no : (r : Evaluated) (tau first : Float) → (r ≡ evaluated.Refused 37 → ⊥) → scaledOf r tau first ≡ total.Refused 37 → ⊥
-unfolding grownOf
+scaled-no : (r : Evaluated) (tau first : Float) → (r ≡ evaluated.Refused 37 → ⊥) → shortIn r tau first ≡ total.Refused 37 → ⊥
+unfolding shortScaled
 scaled-no (evaluated.Refused m) tau first p e = p (let z : m ≡ 37 = cc in ap evaluated.Refused z)
 scaled-no (evaluated.At v) tau first p e = total-no _ _ _ _ e
 
@@ -323,7 +323,7 @@ module _ (run : Run) (valid : checkRun run ≡ 0) (k tau : Float) (point : point
     )
 
     total-of : (b : Bracket) → varianceIn (run .recs) b k tau ≡ total.Refused 37 → b ≡ Refused 37
-    unfolding segmentOf firstOf
+    unfolding segmentOf shortFrom
     total-of (Segment lo hi x) e = absurd (blend-no (evalRaw (sliceAt (run .recs) lo) k) (evalRaw (sliceAt (run .recs) hi) k) x _ (eval-no (sliceAt (run .recs) lo) k) (eval-no (sliceAt (run .recs) hi) k) e)
     total-of Short e = absurd (scaled-no (evalRaw (sliceAt (run .recs) 0) k) tau _ (eval-no (sliceAt (run .recs) 0) k) e)
     total-of (Refused m) e = let z : m ≡ 37 = cc in ap Refused z

@@ -56,8 +56,8 @@ mixedOf l h x gap =
     ((h .w -f l .w) /f gap)
 
 -- the first slice's, scaled by tau over its tau
-unfoldable pub grownOf : Values → Float → Float → Total
-grownOf v tau first =
+unfoldable pub shortScaled : Values → Float → Float → Total
+shortScaled v tau first =
     let scale = tau /f first in
     totalOf (v .w *f scale) (v .«w_k» *f scale) (v .«w_kk» *f scale) (v .w /f first)
 
@@ -67,20 +67,20 @@ blendOf (evaluated.Refused n) h x gap = total.Refused n
 blendOf (evaluated.At l) (evaluated.Refused n) x gap = total.Refused n
 blendOf (evaluated.At l) (evaluated.At h) x gap = mixedOf l h x gap
 
-abbrev pub scaledOf : Evaluated → Float → Float → Total
-scaledOf (evaluated.Refused n) tau first = total.Refused n
-scaledOf (evaluated.At v) tau first = grownOf v tau first
+abbrev pub shortIn : Evaluated → Float → Float → Total
+shortIn (evaluated.Refused n) tau first = total.Refused n
+shortIn (evaluated.At v) tau first = shortScaled v tau first
 
 unfoldable pub segmentOf : SviSlice → SviSlice → Float → Float → Total
 segmentOf lo hi x k = blendOf (evalRaw lo k) (evalRaw hi k) x (hi .tau -f lo .tau)
 
-unfoldable pub firstOf : SviSlice → Float → Float → Total
-firstOf s k tau = scaledOf (evalRaw s k) tau (s .tau)
+unfoldable pub shortFrom : SviSlice → Float → Float → Total
+shortFrom s k tau = shortIn (evalRaw s k) tau (s .tau)
 
 -- `total_variance_at`, from the bracket on
 abbrev pub varianceIn : List SviSlice → Bracket → Float → Float → Total
 varianceIn recs (Segment lo hi x) k tau = segmentOf (sliceAt recs lo) (sliceAt recs hi) x k
-varianceIn recs Short k tau = firstOf (sliceAt recs 0) k tau
+varianceIn recs Short k tau = shortFrom (sliceAt recs 0) k tau
 varianceIn recs (Refused n) k tau = total.Refused n
 
 unfoldable pub varianceAt : List SviSlice → List Float → List Float → ℕ → ShortExpiryPolicy → Float → Float → Total

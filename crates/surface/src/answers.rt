@@ -1,7 +1,7 @@
 // What a tested run of slices answers: the region and the total variance of a point, and whether a grid holds every node.
 ghost use mathlib.Core.Path.{_≡_};
 ghost use Prim.Native.Nat.{_≤_};
-ghost use Rattle.surface.specs.Surface.{bothHold, regionBy, regionIn, mixedOf, grownOf, blendOf, scaledOf, segmentOf, firstOf, varianceIn, varianceAt, bracketRun, regionRun, totalRun, allHeld, entryNumber, coveredBy, coversRun};
+ghost use Rattle.surface.specs.Surface.{bothHold, regionBy, regionIn, mixedOf, shortScaled, blendOf, shortIn, segmentOf, shortFrom, varianceIn, varianceAt, bracketRun, regionRun, totalRun, allHeld, entryNumber, coveredBy, coversRun};
 ghost use Rattle.surface.specs.Inner.{Inside};
 use crate::types::Bracket;
 use crate::types::Covered;
@@ -61,7 +61,7 @@ fn mixed(a: Values, b: Values, x: f64, gap: f64) -> Total
 }
 
 fn grown(v: Values, tau: f64, first: f64) -> Total
-    ensures { λ r. ⌜ r ≡ grownOf v tau first ⌝ }
+    ensures { λ r. ⌜ r ≡ shortScaled v tau first ⌝ }
 {
     let scale = tau / first;
     TotalVariance::new(v.w * scale, v.w_k * scale, v.w_kk * scale, v.w / first)
@@ -80,7 +80,7 @@ fn blend(l: Evaluated, h: Evaluated, x: f64, gap: f64) -> Total
 }
 
 fn scaled(e: Evaluated, tau: f64, first: f64) -> Total
-    ensures { λ r. ⌜ r ≡ scaledOf e tau first ⌝ }
+    ensures { λ r. ⌜ r ≡ shortIn e tau first ⌝ }
 {
     match e {
         Evaluated::Refused(n) => Total::Refused(n),
@@ -96,7 +96,7 @@ fn segment_at(lo: SviSlice, hi: SviSlice, x: f64, k: f64) -> Total
 }
 
 fn short_at(first: SviSlice, k: f64, tau: f64) -> Total
-    ensures { λ r. ⌜ r ≡ firstOf first k tau ⌝ }
+    ensures { λ r. ⌜ r ≡ shortFrom first k tau ⌝ }
 {
     scaled(slice::eval_tested(first, k), tau, first.tau)
 }

@@ -3,7 +3,7 @@ use Prim.Native.Nat.{_<_, ℕ}
 use Rattle.bits.specs.Bytes.{u32At, u64At}
 use Rattle.laws.proofs.Choices.{settled}
 use Rattle.laws.specs.Floats.{absOf, finite, maxOf, minOf, unsignedOf}
-use lib.Ieee.{Float, binary64, ofBits, toBits}
+use lib.Ieee.{Float, binary64, lt, ofBits, toBits}
 use mathlib.Core.Bool.{Bool, cond}
 use mathlib.Core.List.{List}
 use mathlib.Core.Path.{_≡_}
@@ -39,6 +39,10 @@ min a b h₁ h₂ = settled h₁ h₂
 -- bits::max
 pub max : (a : Float) (b : Float) {r₁ r₂ : Float} → (r₁ ≡ maxOf a b) → (r₂ ≡ maxOf a b) → r₁ ≡ r₂
 max a b h₁ h₂ = settled h₁ h₂
+
+-- bits::larger
+pub larger : (a : Float) (b : Float) {r₁ r₂ : Float} → (r₁ ≡ cond (lt a b) b a) → (r₂ ≡ cond (lt a b) b a) → r₁ ≡ r₂
+larger a b h₁ h₂ = settled h₁ h₂
 
 -- bits::bits_of
 pub bits-of : (x : Float) {r₁ r₂ : ℕ} → (r₁ ≡ toBits binary64 x) → (r₂ ≡ toBits binary64 x) → r₁ ≡ r₂

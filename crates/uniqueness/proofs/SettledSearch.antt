@@ -3,7 +3,7 @@ use Prim.Native.Nat.{ℕ}
 use Rattle.cell.specs.declared.Limits.{Limits}
 use Rattle.laws.proofs.Choices.{settled}
 use Rattle.search.specs.Axis.{linspaceAt}
-use Rattle.search.specs.Run.{runOf}
+use Rattle.search.specs.Run.{plannedSearch}
 use Rattle.search.specs.declared.Plan.{Plan}
 use Rattle.search.specs.declared.Search.{Search}
 use lib.Ieee.{Float}
@@ -11,7 +11,7 @@ use mathlib.Core.List.{List}
 use mathlib.Core.Path.{_≡_}
 
 -- search::run
-pub run : (ks : List Float) (ws : List Float) (ts : List Float) (l : Limits) (p : Plan) {r₁ r₂ : Search} → (r₁ ≡ runOf ks ws ts l p) → (r₂ ≡ runOf ks ws ts l p) → r₁ ≡ r₂
+pub run : (ks : List Float) (ws : List Float) (ts : List Float) (l : Limits) (p : Plan) {r₁ r₂ : Search} → (r₁ ≡ plannedSearch ks ws ts l p) → (r₂ ≡ plannedSearch ks ws ts l p) → r₁ ≡ r₂
 run ks ws ts l p h₁ h₂ = settled h₁ h₂
 
 -- search::linspace_at

@@ -9,18 +9,18 @@ use lib.Seq.{set-out}
 use borrow.Author.Needs.{needs}
 use Rattle.laws.specs.Loop.{for}
 use Rattle.laws.proofs.Loops.{again, ended}
-use Rattle.faces.specs.Faces.{memberOf, marksOf}
+use Rattle.faces.specs.Faces.{memberOf, faceMarks}
 use Rattle.faces.proofs.marks.Statement.{statement}
 use Rattle.faces.proofs.marks.Tie as tie
 
 abbrev Inv-loop : tie.InvT-loop
-Inv-loop f t₀ s₀ s-end t s = (length t ≡ 7) × (for s (f .size) (λ s t. set t (memberOf f s) true) t ≡ marksOf f)
+Inv-loop f t₀ s₀ s-end t s = (length t ≡ 7) × (for s (f .size) (λ s t. set t (memberOf f s) true) t ≡ faceMarks f)
 
 abbrev μ-loop : tie.MeasureT-loop
 μ-loop f t₀ s₀ s-end t s = f .size - s
 
 loop-holds : tie.Need-loop-holds Inv-loop μ-loop
-unfolding marksOf
+unfolding faceMarks
 loop-holds c = (refl, refl)
 
 loop-again : tie.Need-loop-again Inv-loop μ-loop

@@ -1,11 +1,11 @@
 -- `search::sizes_hold` meets its contract. Assumes nothing.
-use Rattle.search.specs.Run.{sizesHold}
+use Rattle.search.specs.Run.{planSizesHold}
 use mathlib.Core.Path.{refl}
 use Rattle.search.proofs.sizes_hold.Statement.{statement}
 use Rattle.search.proofs.sizes_hold.Tie as tie
 
 returns : tie.Need-returns
-unfolding sizesHold
+unfolding planSizesHold
 returns c = refl
 
 pub sizes-hold-spec : {M : Type 1} → statement M

@@ -2,7 +2,7 @@
 use mathlib.Core.Path.{_≡_, refl}
 use Prim.Native.Nat.{_+_, _-_}
 use lib.ListN.{set}
-use Rattle.solver.specs.Rows.{firstOf}
+use Rattle.solver.specs.Rows.{frontOf}
 use Rattle.laws.specs.Floats.{at}
 use Rattle.laws.specs.Loop.{for}
 use Rattle.laws.proofs.Loops.{again, ended}
@@ -11,13 +11,13 @@ use Rattle.solver.proofs.first.Statement.{statement}
 use Rattle.solver.proofs.first.Tie as tie
 
 abbrev Inv-loop : tie.InvT-loop
-Inv-loop x n r₀ i₀ r i = for i n (λ i r. set r i (at x (6 - n + i))) r ≡ firstOf n x
+Inv-loop x n r₀ i₀ r i = for i n (λ i r. set r i (at x (6 - n + i))) r ≡ frontOf n x
 
 abbrev μ-loop : tie.MeasureT-loop
 μ-loop x n r₀ i₀ r i = n - i
 
 loop-holds : tie.Need-loop-holds Inv-loop μ-loop
-unfolding firstOf
+unfolding frontOf
 loop-holds c = refl
 
 loop-again : tie.Need-loop-again Inv-loop μ-loop

@@ -7,18 +7,18 @@ use borrow.Author.Needs.{needs}
 use Rattle.laws.specs.Loop.{for}
 use Rattle.laws.specs.Floats.{at}
 use Rattle.laws.proofs.Loops.{again, ended}
-use Rattle.cell.specs.Least.{addedTo, normalOf}
+use Rattle.cell.specs.Least.{withObservation, normalEquations}
 use Rattle.cell.proofs.least.normal_sum.Statement.{statement}
 use Rattle.cell.proofs.least.normal_sum.Tie as tie
 
 abbrev Inv-loop : tie.InvT-loop
-Inv-loop ys hs ws ts n₀ i₀ i-end n i = for i (length ws) (λ i s. addedTo s (at ts i) (at ys i) (at hs i) (at ws i)) n ≡ normalOf (at ys) (at hs) ws ts
+Inv-loop ys hs ws ts n₀ i₀ i-end n i = for i (length ws) (λ i s. withObservation s (at ts i) (at ys i) (at hs i) (at ws i)) n ≡ normalEquations (at ys) (at hs) ws ts
 
 abbrev μ-loop : tie.MeasureT-loop
 μ-loop ys hs ws ts n₀ i₀ i-end n i = length ws - i
 
 loop-holds : tie.Need-loop-holds Inv-loop μ-loop
-unfolding normalOf
+unfolding normalEquations
 loop-holds c = refl
 
 loop-again : tie.Need-loop-again Inv-loop μ-loop

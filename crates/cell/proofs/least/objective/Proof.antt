@@ -6,12 +6,12 @@ use lib.ListN.{length}
 use Rattle.laws.specs.Loop.{for}
 use Rattle.laws.specs.Floats.{_+f_, _*f_, at}
 use Rattle.laws.proofs.Loops.{again, ended}
-use Rattle.cell.specs.Least.{restOf, objectiveOf, objectiveAt}
+use Rattle.cell.specs.Least.{missOf, objectiveOf, objectiveAt}
 use Rattle.cell.proofs.least.objective.Statement.{statement}
 use Rattle.cell.proofs.least.objective.Tie as tie
 
 abbrev Inv-loop : tie.InvT-loop
-Inv-loop ys hs ws ts x a₀ i₀ i-end a i = for i (length ws) (λ i a. a +f at ts i *f restOf x (at ys i) (at hs i) (at ws i) *f restOf x (at ys i) (at hs i) (at ws i)) a ≡ objectiveAt ys hs ws ts x
+Inv-loop ys hs ws ts x a₀ i₀ i-end a i = for i (length ws) (λ i a. a +f at ts i *f missOf x (at ys i) (at hs i) (at ws i) *f missOf x (at ys i) (at hs i) (at ws i)) a ≡ objectiveAt ys hs ws ts x
 
 abbrev μ-loop : tie.MeasureT-loop
 μ-loop ys hs ws ts x a₀ i₀ i-end a i = length ws - i

@@ -1,7 +1,8 @@
 -- `cell::scales::block_scale` meets its contract. Assumes nothing.
 use denote.Ref.{now}
 use borrow.Author.Needs.{needs}
-use Rattle.cell.proofs.Scaling.{zero-sized, block-is}
+use Rattle.solver.proofs.Steps.{zero-not-below}
+use Rattle.cell.proofs.Scaling.{block-is}
 use Rattle.cell.proofs.scales.block_scale.Statement.{statement}
 use Rattle.cell.proofs.scales.block_scale.Tie as tie
 
@@ -16,7 +17,7 @@ block-scale-spec =
     tie.close
     (tie.spec
     (λ c κs. search needs)
-    (λ c κs. zero-sized)
+    (λ c κs. zero-not-below)
     (λ c κs. search needs)
     (λ c κs. search needs)
     returns)

@@ -1,5 +1,5 @@
 -- `diagnostics::grid::visit` meets its contract. Assumes nothing.
-use Rattle.diagnostics.specs.Walk.{visitOf, goodOf, failedOf, standing, failureAt}
+use Rattle.diagnostics.specs.Walk.{visitOf, goodOf, failedOf, walkIn, failureAt}
 use mathlib.Core.Path.{_≡_, ap}
 use lib.ListN.{length-set}
 use Rattle.diagnostics.proofs.Standing.{same-walk}
@@ -19,7 +19,7 @@ returns : tie.Need-returns
 unfolding goodOf visitOf
 returns c =
     let e : c .good2 .result .failed ≡ c .before .before .before .before .before .args .s .failed = ap (λ (w : Walk). w .failed) (c .good2 .ensures) in
-    (rw (c .before .before .seen .given .1) (ap (λ (w : Walk). standing w (c .before .before .before .before .before .args .room .now)) (c .good2 .ensures)), omega arith)
+    (rw (c .before .before .seen .given .1) (ap (λ (w : Walk). walkIn w (c .before .before .before .before .before .args .room .now)) (c .good2 .ensures)), omega arith)
 
 returns-2 : tie.Need-returns-2
 unfolding failedOf failureAt visitOf

@@ -7,7 +7,7 @@ use lib.ListN.{length, length-replicate}
 use Rattle.laws.specs.Floats.{+0}
 use Rattle.laws.specs.Loop.{for}
 use Rattle.search.specs.declared.PassBest.{PassBest}
-use Rattle.search.specs.Search.{noBest, rowOf, passOf}
+use Rattle.search.specs.Search.{noBest, gridRow, passOf}
 use Rattle.search.specs.Run.{fitCell}
 use Rattle.search.specs.Sigmas.{sigmasOf}
 use Rattle.search.specs.Promised.{sum}
@@ -23,7 +23,7 @@ use Rattle.search.proofs.grid.pass.Tie as tie
 
 abbrev Inv-loop : tie.InvT-loop
 Inv-loop ks ws ts l w n best₀ sigmas ys₀ hs₀ i₀ best ys hs i =
-    (i ≤ n) × (best ≡ for 0 i (λ i b. rowOf (fitCell ks ws ts l) w n i b) noBest) × (length ys ≡ 256) × (length hs ≡ 256)
+    (i ≤ n) × (best ≡ for 0 i (λ i b. gridRow (fitCell ks ws ts l) w n i b) noBest) × (length ys ≡ 256) × (length hs ≡ 256)
 
 abbrev μ-loop : tie.MeasureT-loop
 μ-loop ks ws ts l w n best₀ sigmas ys₀ hs₀ i₀ best ys hs i = n - i

@@ -13,7 +13,7 @@ use Rattle.search.specs.declared.Window.{Window}
 use Rattle.search.specs.declared.PassBest.{PassBest}
 use Rattle.search.specs.Sigmas.{sigmaAt, sigmasOf}
 use Rattle.laws.specs.Loop.{for}
-use Rattle.search.specs.Search.{pointAt, consider, cellAt, rowOf}
+use Rattle.search.specs.Search.{axisPoint, consider, cellAt, gridRow}
 use Rattle.search.specs.Run.{fitCell}
 use Rattle.search.specs.Promised.{sum}
 use Rattle.search.proofs.Sums.{sum-most}
@@ -25,7 +25,7 @@ use native.Mathlib.Omega.{arith}
 use Rattle.search.proofs.grid.row.Statement.{statement}
 use Rattle.search.proofs.grid.row.Tie as tie
 
-module _ (t : List Float) (w : Window) (n i : ℕ) (ks ws ts : List Float) (l : Limits) (m : Float) (r : n ≤ 255) (et : t ≡ sigmasOf (w .s) n) (em : m ≡ pointAt (w .m) n i) where
+module _ (t : List Float) (w : Window) (n i : ℕ) (ks ws ts : List Float) (l : Limits) (m : Float) (r : n ≤ 255) (et : t ≡ sigmasOf (w .s) n) (em : m ≡ axisPoint (w .m) n i) where
   -- a cell at the sigma of point j is the fit's cell at that point
   same-cell : (j : ℕ) → j < n → innerOf ks ws ts l m (at t j) ≡ cellAt (fitCell ks ws ts l) w n i j
   unfolding sigmasOf sigmaAt fitCell
@@ -77,7 +77,7 @@ loop-again c =
     (omega arith, one-more _ _ (l .j) (l .inv .1) (rw (← e .0) (c .considered .ensures)), e .1, e .2)
 
 returns : tie.Need-returns Inv-loop μ-loop
-unfolding rowOf
+unfolding gridRow
 returns c =
     let l = c .before .loop in
     let p = c .before .before in

@@ -1,11 +1,11 @@
 -- `search::moves::refuse` meets its contract. Assumes nothing.
-use Rattle.search.specs.Search.{refusedOf}
+use Rattle.search.specs.Search.{searchRefused}
 use mathlib.Core.Path.{refl}
 use Rattle.search.proofs.moves.refuse.Statement.{statement}
 use Rattle.search.proofs.moves.refuse.Tie as tie
 
 returns : tie.Need-returns
-unfolding refusedOf
+unfolding searchRefused
 returns c = refl
 
 pub refuse-spec : {M : Type 1} → statement M

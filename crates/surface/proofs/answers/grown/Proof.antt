@@ -1,11 +1,11 @@
 -- `surface::answers::grown` meets its contract. Assumes nothing.
-use Rattle.surface.specs.Surface.{grownOf}
+use Rattle.surface.specs.Surface.{shortScaled}
 use borrow.Author.Needs.{needs}
 use Rattle.surface.proofs.answers.grown.Statement.{statement}
 use Rattle.surface.proofs.answers.grown.Tie as tie
 
 returns : tie.Need-returns
-unfolding grownOf
+unfolding shortScaled
 returns c = c .new .ensures
 
 pub grown-spec : {M : Type 1} → statement M
