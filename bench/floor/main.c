@@ -2,20 +2,19 @@
  *     floor CELLS           that many random cells: every field of the answer, bit for bit
  *     floor SIDE all|one    one call, to count instructions: SIDE is port, own (each face by itself), shared, or hypot (five of them alone);
  *                           all has 64 faces, one has 1 face, both five quotes: the cells of bench/fit/main.rs */
+#include "kesupayro.h"
+
 #include <math.h>
-#include <stdbool.h>
-#include <stdint.h>
 #include <stdio.h>
 #include <stdlib.h>
 #include <string.h>
 
-typedef struct { double a_min, a_max, pivot_tolerance, feasibility_tolerance; } Limits;
-typedef struct { bool some; double objective, x[3]; bool active[7]; size_t faces; } Cell;
+typedef PortLimits Limits;
+typedef PortCell Cell;
 typedef Cell Answer(const double *k, size_t ks, const double *w, size_t ws, const double *t, size_t ts, Limits l, double m, double sigma);
 typedef struct { double k[256], w[256], t[256], m, sigma; size_t count; Limits limits; } Question;
 
-Answer port_cell, own_cell, shared_cell;
-double port_hypot(double x, double y);
+Answer own_cell, shared_cell;
 
 #define MEASURED(name, answer) __attribute__((noinline)) Cell name(const Question *q) { return answer(q->k, q->count, q->w, q->count, q->t, q->count, q->limits, q->m, q->sigma); }
 MEASURED(measured_port, port_cell)
@@ -107,7 +106,7 @@ int main(int count, char **words) {
     if (count == 3) {
         Question q = quotes(!strcmp(words[2], "one"), 5);
         Cell (*side)(const Question *) = !strcmp(words[1], "port") ? measured_port : !strcmp(words[1], "own") ? measured_own : !strcmp(words[1], "shared") ? measured_shared : measured_hypot;
-        printf("%zu\n", side(&q).faces);
+        printf("%llu\n", (unsigned long long)side(&q).faces);
         return 0;
     }
     long cells = count == 2 ? atol(words[1]) : 0, some = 0, one = 0, different = 0;

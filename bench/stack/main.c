@@ -12,7 +12,7 @@
 enum { STACK = 1 << 20, PAINT = 0xa5, LEAST = 256, MOST = 256, SLICES = 32, AXIS = 64 };
 
 static double k[MOST], w[MOST], weight[MOST], residuals[4 * MOST], axis_k[AXIS], axis_tau[AXIS], room[3 * AXIS * AXIS];
-static size_t capped[MOST];
+static uint64_t capped[MOST];
 static uint8_t file[8300], answer[PORT_MOST_ANSWER];
 static PortSviSlice slices[SLICES];
 static PortCheck check;
@@ -79,8 +79,22 @@ static void fits(int down)
     sink = port_fit_slice(0.25, c, k, n, w, n, weight, n, residuals, 4 * n, capped, n).objective;
 }
 
+/* The same quotes as they came in, each at most once. */
+static void fits_quotes(int down)
+{
+    static PortQuote sent[MOST];
+    size_t n = quotes(down);
+    PortFitConfig c = port_default_config();
+    c.grid = 9;
+    for (size_t i = 0; i < n; i++)
+        sent[i].number = i, sent[i].k = k[i], sent[i].w = w[i], sent[i].weight = weight[i];
+    sink = port_fit_quotes(0.25, c, sent, n, residuals, 4 * n, capped, n).fit.objective;
+}
+
+static void do_abi(void) { sink = port_abi(); }
 static void do_default_config(void) { sink = port_default_config().a_min; }
 static void do_fit_slice(void) { fits(0), fits(1); }
+static void do_fit_quotes(void) { fits_quotes(0), fits_quotes(1); }
 static void do_run(void) { sink = (double)port_run(file, house(0), answer, sizeof answer), sink = (double)port_run(file, house(1), answer, sizeof answer); }
 static void do_k_range(void) { sink = port_k_range(-1, 1).range.lo; }
 static void do_contains(void) { sink = port_contains(slices[0].k_range, 0.5); }
@@ -169,7 +183,7 @@ static const struct {
     void (*call)(void);
 } calls[] = {
 #define CALL(name) {"port_" #name, do_##name}
-    CALL(default_config), CALL(fit_slice), CALL(run),         CALL(k_range),  CALL(contains),    CALL(slice),        CALL(minimum),     CALL(lee_slope),    CALL(eval),
+    CALL(abi), CALL(default_config), CALL(fit_slice), CALL(fit_quotes), CALL(run),         CALL(k_range),  CALL(contains),    CALL(slice),        CALL(minimum),     CALL(lee_slope),    CALL(eval),
     CALL(check_point),    CALL(total),     CALL(surface),     CALL(bracket),  CALL(region),      CALL(total_variance), CALL(covers_nodes), CALL(diagnose),
     CALL(check_record),   CALL(check_clean), CALL(report_clean), CALL(solve), CALL(cell),        CALL(sqrt),         CALL(hypot),       CALL(ln),           CALL(exp),
 };

@@ -10,9 +10,10 @@ enum { MOST = 257 };
 
 /* A fit's columns and buffers, with marks in the room beyond what is lent. */
 static double k[MOST], w[MOST], weight[MOST], residuals[4 * MOST + 4];
-static size_t capped[MOST + 1];
+static uint64_t capped[MOST + 1];
+static PortQuote sent[MOST];
 static const double mark = -77.0;
-static const size_t mark_count = 7777;
+static const uint64_t mark_count = 7777;
 
 /* n quotes off a smile, weight 1, and buffers full of marks. */
 static void quotes(size_t n)
@@ -60,6 +61,7 @@ static int refused(PortFitAnswer a, uint32_t number)
 static void layouts(void)
 {
     EXPECT(sizeof(PortKRange) == 16 && sizeof(PortSviSlice) == 64 && sizeof(PortFitConfig) == 88 && sizeof(PortCounts) == 40);
+    EXPECT(sizeof(PortQuote) == 32 && offsetof(PortQuote, k) == 8 && offsetof(PortQuote, w) == 16 && offsetof(PortQuote, weight) == 24);
     EXPECT(sizeof(PortFitAnswer) == 192 && offsetof(PortFitAnswer, slice) == 40 && offsetof(PortFitAnswer, active) == 136);
     EXPECT(offsetof(PortFitAnswer, counts) == 144 && offsetof(PortFitAnswer, capped) == 184);
 }
@@ -111,52 +113,124 @@ static void refusals(void)
 {
     PortFitConfig c = port_default_config(), bad;
     quotes(9);
-    EXPECT(refused(port_fit_slice(0.5, c, k, 9, w, 8, weight, 9, residuals, 36, capped, 9), PORT_LENGTHS));
-    EXPECT(refused(port_fit_slice(0.5, c, k, 9, w, 9, weight, 8, residuals, 36, capped, 9), PORT_LENGTHS));
-    EXPECT(refused(port_fit_slice(0.5, c, k, 9, w, 9, weight, 9, residuals, 35, capped, 9), PORT_LENGTHS));
-    EXPECT(refused(port_fit_slice(0.5, c, k, 9, w, 9, weight, 9, residuals, 36, capped, 8), PORT_LENGTHS));
+    EXPECT(refused(port_fit_slice(0.5, c, k, 9, w, 8, weight, 9, residuals, 36, capped, 9), PORT_REFUSED_LENGTHS));
+    EXPECT(refused(port_fit_slice(0.5, c, k, 9, w, 9, weight, 8, residuals, 36, capped, 9), PORT_REFUSED_LENGTHS));
+    EXPECT(refused(port_fit_slice(0.5, c, k, 9, w, 9, weight, 9, residuals, 35, capped, 9), PORT_REFUSED_LENGTHS));
+    EXPECT(refused(port_fit_slice(0.5, c, k, 9, w, 9, weight, 9, residuals, 36, capped, 8), PORT_REFUSED_LENGTHS));
     quotes(257);
-    EXPECT(refused(fit(0.5, c, 257), PORT_SIZE));
+    EXPECT(refused(fit(0.5, c, 257), PORT_REFUSED_SIZE));
     quotes(9);
     bad = c, bad.grid = 256;
-    EXPECT(refused(fit(0.5, bad, 9), PORT_SIZE));
-    bad = c, bad.refinements = (size_t)-1;
-    EXPECT(refused(fit(0.5, bad, 9), PORT_SIZE));
+    EXPECT(refused(fit(0.5, bad, 9), PORT_REFUSED_SIZE));
+    bad = c, bad.refinements = UINT64_MAX;
+    EXPECT(refused(fit(0.5, bad, 9), PORT_REFUSED_SIZE));
     bad = c, bad.max_recentres = 1001;
-    EXPECT(refused(fit(NAN, bad, 9), PORT_SIZE));
+    EXPECT(refused(fit(NAN, bad, 9), PORT_REFUSED_SIZE));
     k[8] = NAN;
-    EXPECT(refused(fit(0.5, c, 9), PORT_BAD_OBSERVATION));
+    EXPECT(refused(fit(0.5, c, 9), PORT_REFUSED_BAD_OBSERVATION));
     quotes(9), w[0] = -1e-300;
-    EXPECT(refused(fit(0.5, c, 9), PORT_BAD_OBSERVATION));
+    EXPECT(refused(fit(0.5, c, 9), PORT_REFUSED_BAD_OBSERVATION));
     quotes(9), weight[3] = 0;
-    EXPECT(refused(fit(0.5, c, 9), PORT_BAD_OBSERVATION));
+    EXPECT(refused(fit(0.5, c, 9), PORT_REFUSED_BAD_OBSERVATION));
     quotes(9), bad = c, bad.grid = 4;
-    EXPECT(refused(fit(0.5, bad, 9), PORT_SETTINGS));
+    EXPECT(refused(fit(0.5, bad, 9), PORT_REFUSED_SETTINGS));
     bad = c, bad.sigma_lo = bad.sigma_hi;
-    EXPECT(refused(fit(NAN, bad, 9), PORT_SETTINGS));
-    EXPECT(refused(fit(0, c, 9), PORT_TAU) && refused(fit(NAN, c, 9), PORT_TAU) && refused(fit(INFINITY, c, 9), PORT_TAU));
+    EXPECT(refused(fit(NAN, bad, 9), PORT_REFUSED_SETTINGS));
+    EXPECT(refused(fit(0, c, 9), PORT_REFUSED_TAU) && refused(fit(NAN, c, 9), PORT_REFUSED_TAU) && refused(fit(INFINITY, c, 9), PORT_REFUSED_TAU));
     PortFitAnswer a = fit(0.5, c, 4);
-    EXPECT(a.number == PORT_TOO_FEW && a.observed == 4 && a.required == 5 && a.counts.passes == 0 && untouched());
+    EXPECT(a.number == PORT_REFUSED_TOO_FEW && a.observed == 4 && a.required == 5 && a.counts.passes == 0 && untouched());
     a = fit(0.5, c, 0);
-    EXPECT(a.number == PORT_TOO_FEW && a.observed == 0 && untouched());
+    EXPECT(a.number == PORT_REFUSED_TOO_FEW && a.observed == 0 && untouched());
     for (int i = 0; i < 9; i++)
         k[i] = 0.1;
-    EXPECT(refused(fit(0.5, c, 9), PORT_NO_SPAN));
+    EXPECT(refused(fit(0.5, c, 9), PORT_REFUSED_NO_SPAN));
     quotes(9), weight[0] = 5e-324, weight[1] = 1e300, weight[2] = 1e300, weight[3] = 1e300, weight[4] = 1e300, weight[5] = 1e300;
-    EXPECT(refused(fit(0.5, c, 9), PORT_WEIGHTS));
+    EXPECT(refused(fit(0.5, c, 9), PORT_REFUSED_WEIGHTS));
     quotes(9);
     for (int i = 0; i < 9; i++)
         w[i] = i % 2 ? 1e200 : 2e200;
     a = fit(0.5, c, 9);
-    EXPECT(a.number == PORT_NO_FACE && a.counts.passes == 1 && a.counts.cells == 441 && untouched());
+    EXPECT(a.number == PORT_REFUSED_NO_FACE && a.counts.passes == 1 && a.counts.cells == 441 && untouched());
     quotes(9);
     for (int i = 0; i < 9; i++)
         w[i] = 0.01;
     a = fit(0.25, c, 9);
-    EXPECT(a.number == PORT_GRID_EDGE && a.counts.passes > 0 && untouched());
+    EXPECT(a.number == PORT_REFUSED_GRID_EDGE && a.counts.passes > 0 && untouched());
     quotes(9), bad = c, bad.max_rmse_vol = 1e-9;
     a = fit(0.5, bad, 9);
-    EXPECT(a.number == PORT_RMSE && a.rmse_vol > 1e-9 && a.max_rmse_vol == 1e-9 && a.counts.passes > 0 && untouched());
+    EXPECT(a.number == PORT_REFUSED_RMSE && a.rmse_vol > 1e-9 && a.max_rmse_vol == 1e-9 && a.counts.passes > 0 && untouched());
+}
+
+/* The columns as quotes, each sent `times` times, with buffers full of marks. */
+static size_t send(size_t n, size_t times)
+{
+    quotes(n);
+    for (size_t i = 0; i < n * times; i++)
+        sent[i].number = i % n, sent[i].k = k[i % n], sent[i].w = w[i % n], sent[i].weight = weight[i % n];
+    return n * times;
+}
+
+static PortQuotesAnswer fit_sent(double tau, PortFitConfig config, size_t n)
+{
+    return port_fit_quotes(tau, config, sent, n, residuals, 4 * n, capped, n);
+}
+
+/* A refusal before repeats are dropped: as many kept as read, zeros, buffers untouched. */
+static int sent_refused(PortQuotesAnswer a, uint32_t number, size_t n)
+{
+    return a.read == n && a.kept == n && refused(a.fit, number);
+}
+
+/* Quotes as they came in: the same answer, bit for bit, as the columns of the first of each. */
+static void quotes_as_sent(void)
+{
+    PortFitConfig c = port_default_config(), bad;
+    static double lone[4 * MOST];
+    quotes(9), weight[4] = 16;
+    PortFitAnswer once = fit(0.5, c, 9);
+    memcpy(lone, residuals, sizeof lone);
+    send(9, 3);
+    sent[4].weight = sent[13].weight = sent[22].weight = 16;
+    PortQuotesAnswer a = fit_sent(0.5, c, 27);
+    EXPECT(a.read == 27 && a.kept == 9 && a.fit.number == PORT_FITTED && a.fit.capped == 1 && capped[0] == 4 && capped[1] == mark_count);
+    EXPECT(memcmp(&a.fit.slice, &once.slice, sizeof once.slice) == 0 && memcmp(&a.fit.counts, &once.counts, sizeof once.counts) == 0);
+    EXPECT(a.fit.objective == once.objective && a.fit.objective_params == once.objective_params && a.fit.rmse_vol == once.rmse_vol);
+    EXPECT(a.fit.lee_margin == once.lee_margin && a.fit.a_margin == once.a_margin && memcmp(a.fit.active, once.active, sizeof once.active) == 0);
+    EXPECT(memcmp(residuals, lone, 36 * sizeof *lone) == 0 && residuals[36] == mark);
+
+    /* nine copies of one quote are one quote */
+    send(1, 9);
+    a = fit_sent(0.25, c, 9);
+    EXPECT(a.read == 9 && a.kept == 1 && a.fit.number == PORT_REFUSED_TOO_FEW && a.fit.observed == 1 && a.fit.required == 5 && untouched());
+    /* +0 and -0 are two contents; another number of the same content is no other quote */
+    send(5, 1), sent[1] = sent[0], sent[1].k = 0.0, sent[0].k = -0.0;
+    EXPECT(fit_sent(0.5, c, 5).kept == 5);
+    send(5, 1), sent[1] = sent[0], sent[1].number = 99;
+    EXPECT(fit_sent(0.5, c, 5).kept == 4);
+
+    /* the room is for what came in; then sizes, then each quote, repeats and all */
+    size_t n = send(9, 3);
+    EXPECT(sent_refused(port_fit_quotes(0.5, c, sent, n, residuals, 4 * n - 1, capped, n), PORT_REFUSED_LENGTHS, n));
+    EXPECT(sent_refused(port_fit_quotes(0.5, c, sent, n, residuals, 4 * n, capped, n - 1), PORT_REFUSED_LENGTHS, n));
+    bad = c, bad.grid = 256;
+    sent[26].k = NAN;
+    EXPECT(sent_refused(fit_sent(0.5, bad, n), PORT_REFUSED_SIZE, n) && sent_refused(fit_sent(NAN, c, n), PORT_REFUSED_BAD_OBSERVATION, n));
+    send(1, 257);
+    EXPECT(sent_refused(fit_sent(0.5, c, 257), PORT_REFUSED_SIZE, 257));
+    send(1, 256);
+    a = fit_sent(0.5, c, 256);
+    EXPECT(a.read == 256 && a.kept == 1 && a.fit.number == PORT_REFUSED_TOO_FEW && untouched());
+    EXPECT(port_fit_quotes(0.5, c, NULL, 0, NULL, 0, NULL, 0).fit.number == PORT_REFUSED_TOO_FEW);
+    bad = c, bad.grid = 4;
+    send(9, 2);
+    a = fit_sent(0.5, bad, 18);
+    EXPECT(a.read == 18 && a.kept == 9 && refused(a.fit, PORT_REFUSED_SETTINGS) && refused(fit_sent(0, c, 18).fit, PORT_REFUSED_TAU));
+    /* bytes that are no whole quotes, as another language may hand them over */
+    uint64_t sizes[4], counts[10];
+    double reals[7], values[14];
+    bool active[7];
+    port_pack_config(c, sizes, reals);
+    EXPECT(port_raw_fit_quotes(0.5, sizes, reals, (const uint8_t *)sent, 32 * 9 - 1, residuals, 72, capped, 18, counts, values, active) == PORT_REFUSED_LENGTHS && untouched());
 }
 
 static void number_of_8(uint8_t *at, uint64_t x)
@@ -202,6 +276,7 @@ static void *all(void *nothing)
     defaults();
     fits();
     refusals();
+    quotes_as_sent();
     house_file();
     return nothing;
 }
@@ -209,5 +284,6 @@ static void *all(void *nothing)
 int main(void)
 {
     layouts();
+    EXPECT(port_abi() == PORT_ABI);
     return with_256_kib(all);
 }

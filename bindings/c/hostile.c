@@ -133,7 +133,7 @@ static PortFitAnswer fit(double tau, PortFitConfig c, size_t nk, size_t nw, size
         k[i] = 0.01 * i, w[i] = 0.04 + 0.0001 * (i - 100) * (i - 100), t[i] = 1;
     const double *pk = reading(k, 8 * nk), *pw = reading(w, 8 * nw), *pt = reading(t, 8 * nt);
     double *r = marked(8 * nr);
-    size_t *q = marked(8 * nc);
+    uint64_t *q = marked(8 * nc);
     PortFitAnswer a = port_fit_slice(tau, c, pk, nk, pw, nw, pt, nt, r, nr, q, nc);
     /* refused: nothing written; accepted: exactly four numbers an observation and the capped positions */
     size_t rows = a.number ? 0 : 4 * nk, caps = a.number ? 0 : a.capped;
@@ -150,21 +150,21 @@ static void fits(void)
     for (size_t i = 0; i < 7; i++)
         for (size_t j = 0; j < 7; j++) {
             size_t n = lengths[i], m = lengths[j];
-            uint32_t sized = n > 256 ? PORT_SIZE : n < 5 ? PORT_TOO_FEW : 0;
+            uint32_t sized = n > 256 ? PORT_REFUSED_SIZE : n < 5 ? PORT_REFUSED_TOO_FEW : 0;
             PortFitAnswer a = fit(0.5, c, n, n, n, 4 * n, n, &good);
-            EXPECT(good && (sized ? a.number == sized : a.number != PORT_SIZE && a.number != PORT_TOO_FEW));
+            EXPECT(good && (sized ? a.number == sized : a.number != PORT_REFUSED_SIZE && a.number != PORT_REFUSED_TOO_FEW));
             if (n == m)
                 continue;
-            EXPECT(fit(0.5, c, n, m, n, 4 * n, n, &good).number == PORT_LENGTHS && good);
-            EXPECT(fit(0.5, c, n, n, m, 4 * n, n, &good).number == PORT_LENGTHS && good);
+            EXPECT(fit(0.5, c, n, m, n, 4 * n, n, &good).number == PORT_REFUSED_LENGTHS && good);
+            EXPECT(fit(0.5, c, n, n, m, 4 * n, n, &good).number == PORT_REFUSED_LENGTHS && good);
             a = fit(0.5, c, n, n, n, 4 * m, n, &good);
-            EXPECT(good && (m < n ? a.number == PORT_LENGTHS : a.number != PORT_LENGTHS));
+            EXPECT(good && (m < n ? a.number == PORT_REFUSED_LENGTHS : a.number != PORT_REFUSED_LENGTHS));
             a = fit(0.5, c, n, n, n, 4 * n, m, &good);
-            EXPECT(good && (m < n ? a.number == PORT_LENGTHS : a.number != PORT_LENGTHS));
+            EXPECT(good && (m < n ? a.number == PORT_REFUSED_LENGTHS : a.number != PORT_REFUSED_LENGTHS));
         }
     for (size_t r = 0; r < 44; r++) { /* odd lengths of the room */
-        EXPECT((fit(0.5, c, 9, 9, 9, r, 9, &good).number == PORT_LENGTHS) == (r < 36) && good);
-        EXPECT((fit(0.5, c, 9, 9, 9, 36, r, &good).number == PORT_LENGTHS) == (r < 9) && good);
+        EXPECT((fit(0.5, c, 9, 9, 9, r, 9, &good).number == PORT_REFUSED_LENGTHS) == (r < 36) && good);
+        EXPECT((fit(0.5, c, 9, 9, 9, 36, r, &good).number == PORT_REFUSED_LENGTHS) == (r < 9) && good);
     }
     /* every setting and tau takes every odd number: an answer, and nothing else touched */
     double *floats[] = {&c.sigma_lo, &c.sigma_hi, &c.a_min, &c.max_rmse_vol, &c.pivot_tolerance, &c.feasibility_tolerance, &c.max_weight_ratio};
@@ -173,25 +173,25 @@ static void fits(void)
             double kept = *floats[s];
             *floats[s] = odd[i];
             PortFitAnswer a = fit(0.5, c, 9, 9, 9, 36, 9, &good);
-            EXPECT(good && a.number <= 12 && (isfinite(odd[i]) && odd[i] > 0 ? 1 : a.number == PORT_SETTINGS));
+            EXPECT(good && a.number <= 12 && (isfinite(odd[i]) && odd[i] > 0 ? 1 : a.number == PORT_REFUSED_SETTINGS));
             *floats[s] = kept;
         }
     for (int i = 0; i < ODD; i++)
-        EXPECT((fit(odd[i], c, 9, 9, 9, 36, 9, &good).number == PORT_TAU) == !(isfinite(odd[i]) && odd[i] > 0) && good);
+        EXPECT((fit(odd[i], c, 9, 9, 9, 36, 9, &good).number == PORT_REFUSED_TAU) == !(isfinite(odd[i]) && odd[i] > 0) && good);
     static const size_t counts[] = {0, 1, 4, 5, 255, 256, 1000, 1001, (size_t)1 << 32, (size_t)1 << 63, SIZE_MAX};
     for (int i = 0; i < 11; i++) {
         PortFitConfig d = c;
         d.grid = counts[i] == 255 ? 9 : counts[i];
-        EXPECT(fit(0.5, d, 9, 9, 9, 36, 9, &good).number == (counts[i] > 255 ? PORT_SIZE : counts[i] < 5 ? PORT_SETTINGS : fit(0.5, d, 9, 9, 9, 36, 9, &good).number) && good);
+        EXPECT(fit(0.5, d, 9, 9, 9, 36, 9, &good).number == (counts[i] > 255 ? PORT_REFUSED_SIZE : counts[i] < 5 ? PORT_REFUSED_SETTINGS : fit(0.5, d, 9, 9, 9, 36, 9, &good).number) && good);
         d = c, d.refinements = counts[i];
         if (counts[i] > 1000)
-            EXPECT(fit(0.5, d, 9, 9, 9, 36, 9, &good).number == PORT_SIZE && good);
+            EXPECT(fit(0.5, d, 9, 9, 9, 36, 9, &good).number == PORT_REFUSED_SIZE && good);
         d = c, d.max_recentres = counts[i];
         if (counts[i] > 1000)
-            EXPECT(fit(0.5, d, 9, 9, 9, 36, 9, &good).number == PORT_SIZE && good);
+            EXPECT(fit(0.5, d, 9, 9, 9, 36, 9, &good).number == PORT_REFUSED_SIZE && good);
         d = c, d.min_observations = counts[i];
         uint32_t n = fit(0.5, d, 9, 9, 9, 36, 9, &good).number;
-        EXPECT(good && (counts[i] < 5 ? n == PORT_SETTINGS : counts[i] > 9 ? n == PORT_TOO_FEW : n != PORT_TOO_FEW));
+        EXPECT(good && (counts[i] < 5 ? n == PORT_REFUSED_SETTINGS : counts[i] > 9 ? n == PORT_REFUSED_TOO_FEW : n != PORT_REFUSED_TOO_FEW));
     }
     /* columns of anything */
     for (int i = 0; i < 3000 / few; i++) {
@@ -204,10 +204,25 @@ static void fits(void)
             bad |= !isfinite(k[j]) || !isfinite(w[j]) || w[j] < 0 || !isfinite(t[j]) || !(t[j] > 0);
         const double *pk = reading(k, 8 * n), *pw = reading(w, 8 * n), *pt = reading(t, 8 * n);
         double *r = marked(32 * n);
-        size_t *q = marked(8 * n);
+        uint64_t *q = marked(8 * n);
         PortFitAnswer a = port_fit_slice(0.5, c, pk, n, pw, n, pt, n, r, 4 * n, q, n);
         int kept = a.number == 0 || (still_marked(r, 32 * n) && still_marked(q, 8 * n));
-        if (!((a.number == PORT_BAD_OBSERVATION) == bad && kept && safe()))
+        if (!((a.number == PORT_REFUSED_BAD_OBSERVATION) == bad && kept && safe()))
+            EXPECT(0);
+        /* the same as quotes, some of them sent again: the answer of the columns without the repeats */
+        PortQuote sent[9];
+        size_t copies = n ? word() % 4 : 0;
+        for (size_t j = 0; j < n + copies; j++) {
+            size_t from = j < n ? j : word() % n;
+            sent[j].number = word(), sent[j].k = k[from], sent[j].w = w[from], sent[j].weight = t[from];
+        }
+        const PortQuote *s = reading(sent, sizeof *sent * (n + copies));
+        r = marked(32 * (n + copies)), q = marked(8 * (n + copies));
+        PortQuotesAnswer b = port_fit_quotes(0.5, c, s, n + copies, r, 4 * (n + copies), q, n + copies);
+        kept = b.fit.number == 0 || (still_marked(r, 32 * (n + copies)) && still_marked(q, 8 * (n + copies)));
+        if (!((b.fit.number == PORT_REFUSED_BAD_OBSERVATION) == bad && b.read == n + copies && b.kept <= b.read && kept && safe()))
+            EXPECT(0);
+        if (!bad && b.kept == n && !(b.fit.number == a.number && same(b.fit.objective, a.objective) && same(b.fit.slice.a, a.slice.a) && same(b.fit.slice.sigma, a.slice.sigma)))
             EXPECT(0);
     }
     passed++;
@@ -229,11 +244,11 @@ static PortSviSlice slice_of(int style)
 static uint32_t tested(PortSviSlice s)
 {
     if (!isfinite(s.k_range.lo) || !isfinite(s.k_range.hi) || s.k_range.lo > s.k_range.hi)
-        return PORT_K_RANGE;
+        return PORT_REFUSED_K_RANGE;
     if (!isfinite(s.tau) || !isfinite(s.a) || !isfinite(s.b) || !isfinite(s.rho) || !isfinite(s.m) || !isfinite(s.sigma))
-        return PORT_NOT_FINITE;
-    return s.tau <= 0 ? PORT_SLICE_TAU : s.b < 0 ? PORT_B : fabs(s.rho) > 1 ? PORT_RHO : s.sigma <= 0 ? PORT_SIGMA
-         : s.b * (1 + fabs(s.rho)) > 2 ? PORT_LEE : 0;
+        return PORT_REFUSED_NOT_FINITE;
+    return s.tau <= 0 ? PORT_REFUSED_SLICE_TAU : s.b < 0 ? PORT_REFUSED_B : fabs(s.rho) > 1 ? PORT_REFUSED_RHO : s.sigma <= 0 ? PORT_REFUSED_SIGMA
+         : s.b * (1 + fabs(s.rho)) > 2 ? PORT_REFUSED_LEE : 0;
 }
 
 static void slices(void)
@@ -246,19 +261,19 @@ static void slices(void)
         PortValuesAnswer v = port_eval(s, k);
         PortRangeAnswer r = port_k_range(s.k_range.lo, s.k_range.hi);
         PortSliceAnswer made = port_slice(s.tau, s.a, s.b, s.rho, s.m, s.sigma, s.k_range);
-        int good = want ? m.number == want : m.number == 0 || m.number == PORT_MINIMUM;
+        int good = want ? m.number == want : m.number == 0 || m.number == PORT_REFUSED_MINIMUM;
         good &= l.number == m.number && (m.number ? v.number == m.number : v.number == 0 || (v.number >= 29 && v.number <= 31));
         good &= !m.number || (m.value == 0 && l.value == 0);
         good &= !v.number || (v.w == 0 && v.w_k == 0 && v.w_kk == 0);
         good &= v.number || (isfinite(v.w) && isfinite(v.w_k) && isfinite(v.w_kk));
-        good &= m.number || v.number != PORT_EVAL_K || !isfinite(k);
-        good &= (r.number == PORT_K_RANGE) == (want == PORT_K_RANGE) && (r.number == 0 || r.number == PORT_K_RANGE);
-        good &= want == PORT_K_RANGE || made.number == m.number;
+        good &= m.number || v.number != PORT_REFUSED_EVAL_K || !isfinite(k);
+        good &= (r.number == PORT_REFUSED_K_RANGE) == (want == PORT_REFUSED_K_RANGE) && (r.number == 0 || r.number == PORT_REFUSED_K_RANGE);
+        good &= want == PORT_REFUSED_K_RANGE || made.number == m.number;
         good &= port_contains(s.k_range, k) == (k >= s.k_range.lo && k <= s.k_range.hi);
         uint32_t p = port_check_point(s.tau, k);
-        good &= p == (!isfinite(s.tau) ? PORT_POINT_K : !isfinite(k) || k <= 0 ? PORT_POINT_TAU : 0);
+        good &= p == (!isfinite(s.tau) ? PORT_REFUSED_POINT_K : !isfinite(k) || k <= 0 ? PORT_REFUSED_POINT_TAU : 0);
         PortTotalAnswer t = port_total(s.tau, s.a, s.b, k);
-        good &= t.number == (!isfinite(s.tau) || s.tau <= 0 ? PORT_VARIANCE : !isfinite(s.a) || !isfinite(s.b) || !isfinite(k) ? PORT_DERIVATIVE : 0);
+        good &= t.number == (!isfinite(s.tau) || s.tau <= 0 ? PORT_REFUSED_VARIANCE : !isfinite(s.a) || !isfinite(s.b) || !isfinite(k) ? PORT_REFUSED_DERIVATIVE : 0);
         if (!good)
             EXPECT(0);
     }
@@ -281,7 +296,7 @@ static void surfaces(void)
     static const size_t counts[] = {0, 1, 2, 3, 31, 32, 33, 40};
     for (int i = 0; i < 8; i++) {
         size_t n = counts[i];
-        uint32_t want = n > 32 ? PORT_SIZE : n < 2 ? PORT_TWO_SLICES : 0;
+        uint32_t want = n > 32 ? PORT_REFUSED_SIZE : n < 2 ? PORT_REFUSED_TWO_SLICES : 0;
         const PortSviSlice *s = reading(run, n * sizeof *run);
         EXPECT(port_surface(s, n) == want && safe());
         for (int j = 0; j < ODD; j++)
@@ -294,7 +309,7 @@ static void surfaces(void)
                     PortRegionAnswer g = port_region(s, n, policy, k, tau);
                     PortTotalAnswer t = port_total_variance(s, n, policy, k, tau);
                     int good = point ? b.number == point && g.number == point && t.number == point : b.number == 0 || b.number == 36 || b.number == 37;
-                    good &= point || b.number != PORT_BEFORE_FIRST || (tau < 1 && policy != PORT_CONSTANT_VOL);
+                    good &= point || b.number != PORT_REFUSED_BEFORE_FIRST || (tau < 1 && policy != PORT_CONSTANT_VOL);
                     good &= b.number || b.below || (b.lo + 1 == b.hi && b.hi < n && b.x >= 0 && b.x <= 1);
                     good &= t.number || (t.total.w > 0 && isfinite(t.total.w));
                     if (!(good && safe()))
@@ -307,13 +322,13 @@ static void surfaces(void)
         rising();
         for (int j = 0; j < (int)(word() % 3); j++)
             run[word() % 40] = slice_of(4);
-        uint32_t want = n > 32 ? PORT_SIZE : 0;
+        uint32_t want = n > 32 ? PORT_REFUSED_SIZE : 0;
         for (size_t j = 0; j < n && !want; j++)
             want = port_minimum(run[j]).number;
         if (!want)
-            want = n < 2 ? PORT_TWO_SLICES : 0;
+            want = n < 2 ? PORT_REFUSED_TWO_SLICES : 0;
         for (size_t j = 1; j < n && !want; j++)
-            want = run[j - 1].tau < run[j].tau ? 0 : PORT_TAU_ORDER;
+            want = run[j - 1].tau < run[j].tau ? 0 : PORT_REFUSED_TAU_ORDER;
         const PortSviSlice *s = reading(run, n * sizeof *run);
         if (!(port_surface(s, n) == want && safe()))
             EXPECT(0);
@@ -338,12 +353,12 @@ static void axes(void)
                 const double *ks = reading(axis, 8 * nk), *ts = reading(axis, 8 * nt);
                 double *room = marked(8 * rooms);
                 PortDiagnosedAnswer d = port_diagnose(s, 9, 0, ks, nk, ts, nt, config, room, rooms);
-                uint32_t want = rooms < all ? PORT_LENGTHS : nk > 64 || nt > 64 ? PORT_SIZE : !nk ? PORT_K_AXIS : !nt ? PORT_TAU_AXIS : 0;
+                uint32_t want = rooms < all ? PORT_REFUSED_LENGTHS : nk > 64 || nt > 64 ? PORT_REFUSED_SIZE : !nk ? PORT_REFUSED_K_AXIS : !nt ? PORT_REFUSED_TAU_AXIS : 0;
                 size_t wrote = d.number ? 0 : 3 * d.report.evaluation_failures;
                 EXPECT(d.number == want && still_marked(room + wrote, 8 * (rooms - wrote)));
                 EXPECT(d.number || d.report.butterfly.points + d.report.evaluation_failures == nk * nt);
                 PortCoversAnswer v = port_covers_nodes(s, 9, ks, nk, ts, nt);
-                EXPECT(v.number == (nk > 64 || nt > 64 ? PORT_SIZE : !nk ? PORT_K_AXIS : !nt ? PORT_TAU_AXIS : 0) && safe());
+                EXPECT(v.number == (nk > 64 || nt > 64 ? PORT_REFUSED_SIZE : !nk ? PORT_REFUSED_K_AXIS : !nt ? PORT_REFUSED_TAU_AXIS : 0) && safe());
             }
     for (int i = 0; i < 20000 / few; i++) { /* anything on the axes and as tolerances */
         size_t n = 1 + word() % 4;
@@ -358,7 +373,7 @@ static void axes(void)
         const double *ks = reading(axis, 8 * n);
         double *room = marked(24 * n * n);
         PortDiagnosedAnswer d = port_diagnose(s, 3, word() % 3, ks, n, ks, n, config, room, 3 * n * n);
-        uint32_t want = k_bad ? PORT_K_AXIS : t_bad ? PORT_TAU_AXIS : !tolerances ? PORT_TOLERANCE : 0;
+        uint32_t want = k_bad ? PORT_REFUSED_K_AXIS : t_bad ? PORT_REFUSED_TAU_AXIS : !tolerances ? PORT_REFUSED_TOLERANCE : 0;
         size_t wrote = d.number ? 0 : 3 * d.report.evaluation_failures;
         if (!(d.number == want && still_marked(room + wrote, 8 * (3 * n * n - wrote)) && safe()))
             EXPECT(0);
@@ -483,16 +498,17 @@ static void nulls(void)
     uint8_t out[32];
     PortDiagnosticsConfig config = {0, 0};
     EXPECT(port_run(NULL, 0, out, sizeof out) == 15 && memcmp(out, "refused 43 0 0\n", 15) == 0 && port_run(NULL, 0, NULL, 0) == 15);
-    EXPECT(port_fit_slice(0.5, c, NULL, 0, NULL, 0, NULL, 0, NULL, 0, NULL, 0).number == PORT_TOO_FEW);
-    EXPECT(port_surface(NULL, 0) == PORT_TWO_SLICES && port_bracket(NULL, 0, 0, 0, 1).number == PORT_TWO_SLICES);
-    EXPECT(port_region(NULL, 0, 0, 0, 1).number == PORT_TWO_SLICES && port_total_variance(NULL, 0, 0, 0, 1).number == PORT_TWO_SLICES);
-    EXPECT(port_covers_nodes(NULL, 0, NULL, 0, NULL, 0).number == PORT_TWO_SLICES);
-    EXPECT(port_diagnose(NULL, 0, 0, NULL, 0, NULL, 0, config, NULL, 0).number == PORT_TWO_SLICES);
+    EXPECT(port_fit_slice(0.5, c, NULL, 0, NULL, 0, NULL, 0, NULL, 0, NULL, 0).number == PORT_REFUSED_TOO_FEW);
+    EXPECT(port_fit_quotes(0.5, c, NULL, 0, NULL, 0, NULL, 0).fit.number == PORT_REFUSED_TOO_FEW);
+    EXPECT(port_surface(NULL, 0) == PORT_REFUSED_TWO_SLICES && port_bracket(NULL, 0, 0, 0, 1).number == PORT_REFUSED_TWO_SLICES);
+    EXPECT(port_region(NULL, 0, 0, 0, 1).number == PORT_REFUSED_TWO_SLICES && port_total_variance(NULL, 0, 0, 0, 1).number == PORT_REFUSED_TWO_SLICES);
+    EXPECT(port_covers_nodes(NULL, 0, NULL, 0, NULL, 0).number == PORT_REFUSED_TWO_SLICES);
+    EXPECT(port_diagnose(NULL, 0, 0, NULL, 0, NULL, 0, config, NULL, 0).number == PORT_REFUSED_TWO_SLICES);
     PortSviSlice two[2] = {{1, 0.25, 0.5, 0, 0, 3, {-1, 1}}, {2, 0.5, 0.5, 0, 0, 3, {-1, 1}}};
     double one = 1;
-    EXPECT(port_covers_nodes(two, 2, NULL, 0, NULL, 0).number == PORT_K_AXIS && port_covers_nodes(two, 2, &one, 1, NULL, 0).number == PORT_TAU_AXIS);
-    EXPECT(port_diagnose(two, 2, 0, NULL, 0, NULL, 0, config, NULL, 0).number == PORT_K_AXIS);
-    EXPECT(port_diagnose(two, 2, 0, &one, 1, &one, 1, config, NULL, 0).number == PORT_LENGTHS);
+    EXPECT(port_covers_nodes(two, 2, NULL, 0, NULL, 0).number == PORT_REFUSED_K_AXIS && port_covers_nodes(two, 2, &one, 1, NULL, 0).number == PORT_REFUSED_TAU_AXIS);
+    EXPECT(port_diagnose(two, 2, 0, NULL, 0, NULL, 0, config, NULL, 0).number == PORT_REFUSED_K_AXIS);
+    EXPECT(port_diagnose(two, 2, 0, &one, 1, &one, 1, config, NULL, 0).number == PORT_REFUSED_LENGTHS);
     PortLimits limits = {0, 0, 0, 0};
     EXPECT(port_cell(NULL, 0, NULL, 0, NULL, 0, limits, 0, 1).faces > 0);
 }
@@ -507,10 +523,12 @@ static void beyond(void)
     *one = 1;
     for (int s = 10; s < 64; s++) {
         size_t n = (size_t)1 << s, q = SIZE_MAX >> (s - 10);
-        uint32_t a = port_fit_slice(0.5, c, one, n, one, n, one, n, one, n, (size_t *)one, n).number;
-        EXPECT(a == PORT_SIZE || a == PORT_LENGTHS);
-        a = port_fit_slice(0.5, c, one, q, one, q, one, q, one, q, (size_t *)one, q).number;
-        EXPECT(a == PORT_SIZE || a == PORT_LENGTHS);
+        uint32_t a = port_fit_slice(0.5, c, one, n, one, n, one, n, one, n, (uint64_t *)one, n).number;
+        EXPECT(a == PORT_REFUSED_SIZE || a == PORT_REFUSED_LENGTHS);
+        a = port_fit_quotes(0.5, c, (const PortQuote *)(const void *)one, n, one, n, (uint64_t *)one, n).fit.number;
+        EXPECT(a == PORT_REFUSED_SIZE || a == PORT_REFUSED_LENGTHS);
+        a = port_fit_slice(0.5, c, one, q, one, q, one, q, one, q, (uint64_t *)one, q).number;
+        EXPECT(a == PORT_REFUSED_SIZE || a == PORT_REFUSED_LENGTHS);
     }
     EXPECT(*one == 1 && safe());
 }

@@ -25,9 +25,9 @@ static void ranges(void)
 {
     PortRangeAnswer r = port_k_range(-1, 2);
     EXPECT(r.number == 0 && r.range.lo == -1 && r.range.hi == 2);
-    EXPECT(port_k_range(2, 2).number == 0 && port_k_range(2, 1).number == PORT_K_RANGE && port_k_range(NAN, 1).number == PORT_K_RANGE);
+    EXPECT(port_k_range(2, 2).number == 0 && port_k_range(2, 1).number == PORT_REFUSED_K_RANGE && port_k_range(NAN, 1).number == PORT_REFUSED_K_RANGE);
     r = port_k_range(0, INFINITY);
-    EXPECT(r.number == PORT_K_RANGE && r.range.lo == 0 && r.range.hi == 0);
+    EXPECT(r.number == PORT_REFUSED_K_RANGE && r.range.lo == 0 && r.range.hi == 0);
     EXPECT(port_contains(wide, 1) && port_contains(wide, -1) && !port_contains(wide, 1.5) && !port_contains(wide, NAN));
 }
 
@@ -50,35 +50,35 @@ static void slices(void)
     PortValuesAnswer v = port_eval(s, 4);
     EXPECT(v.number == 0 && v.w == 2.75 && fabs(v.w_k - 0.4) < 1e-15 && v.w_kk > 0);
     EXPECT(port_eval(s, 0).w == 1.75 && port_eval(s, 0).w_k == 0);
-    EXPECT(port_eval(s, NAN).number == PORT_EVAL_K && port_eval(s, INFINITY).number == PORT_EVAL_K);
+    EXPECT(port_eval(s, NAN).number == PORT_REFUSED_EVAL_K && port_eval(s, INFINITY).number == PORT_REFUSED_EVAL_K);
     s.a = NAN;
-    EXPECT(slice_refused(s, PORT_NOT_FINITE));
+    EXPECT(slice_refused(s, PORT_REFUSED_NOT_FINITE));
     s = slice_at(0);
-    EXPECT(slice_refused(s, PORT_SLICE_TAU));
+    EXPECT(slice_refused(s, PORT_REFUSED_SLICE_TAU));
     s = slice_at(2), s.b = -0.5;
-    EXPECT(slice_refused(s, PORT_B));
+    EXPECT(slice_refused(s, PORT_REFUSED_B));
     s = slice_at(2), s.rho = 1.25;
-    EXPECT(slice_refused(s, PORT_RHO));
+    EXPECT(slice_refused(s, PORT_REFUSED_RHO));
     s = slice_at(2), s.sigma = 0;
-    EXPECT(slice_refused(s, PORT_SIGMA));
+    EXPECT(slice_refused(s, PORT_REFUSED_SIGMA));
     s = slice_at(2), s.b = 1.5, s.rho = 0.5;
-    EXPECT(slice_refused(s, PORT_LEE));
+    EXPECT(slice_refused(s, PORT_REFUSED_LEE));
     s = slice_at(2), s.a = -1.5;
-    EXPECT(slice_refused(s, PORT_MINIMUM));
+    EXPECT(slice_refused(s, PORT_REFUSED_MINIMUM));
     s = slice_at(2), s.k_range.lo = 2;
-    EXPECT(port_minimum(s).number == PORT_K_RANGE && port_eval(s, 0).number == PORT_K_RANGE && port_eval(s, 0).w == 0);
+    EXPECT(port_minimum(s).number == PORT_REFUSED_K_RANGE && port_eval(s, 0).number == PORT_REFUSED_K_RANGE && port_eval(s, 0).w == 0);
     s = slice_at(2), s.b = 1, s.rho = 1;
-    EXPECT(port_eval(s, 1.7e308).number == PORT_EVAL);
+    EXPECT(port_eval(s, 1.7e308).number == PORT_REFUSED_EVAL);
     s = slice_at(2), s.sigma = 1e-200;
-    EXPECT(port_eval(s, 1).number == PORT_CURVATURE);
+    EXPECT(port_eval(s, 1).number == PORT_REFUSED_CURVATURE);
 }
 
 static void points(void)
 {
-    EXPECT(port_check_point(0, 1) == 0 && port_check_point(NAN, NAN) == PORT_POINT_K && port_check_point(0, 0) == PORT_POINT_TAU);
+    EXPECT(port_check_point(0, 1) == 0 && port_check_point(NAN, NAN) == PORT_REFUSED_POINT_K && port_check_point(0, 0) == PORT_REFUSED_POINT_TAU);
     PortTotalAnswer t = port_total(1, 2, 3, 4);
     EXPECT(t.number == 0 && t.total.w == 1 && t.total.w_k == 2 && t.total.w_kk == 3 && t.total.w_tau == 4);
-    EXPECT(port_total(0, NAN, 0, 0).number == PORT_VARIANCE && port_total(1, 0, INFINITY, 0).number == PORT_DERIVATIVE);
+    EXPECT(port_total(0, NAN, 0, 0).number == PORT_REFUSED_VARIANCE && port_total(1, 0, INFINITY, 0).number == PORT_REFUSED_DERIVATIVE);
 }
 
 static void surfaces(void)
@@ -86,7 +86,7 @@ static void surfaces(void)
     PortSviSlice s[33];
     for (int i = 0; i < 33; i++)
         s[i] = slice_at(1 + i), s[i].a = 0.25 + i;
-    EXPECT(port_surface(s, 32) == 0 && port_surface(s, 33) == PORT_SIZE && port_surface(s, 1) == PORT_TWO_SLICES && port_surface(s, 0) == PORT_TWO_SLICES);
+    EXPECT(port_surface(s, 32) == 0 && port_surface(s, 33) == PORT_REFUSED_SIZE && port_surface(s, 1) == PORT_REFUSED_TWO_SLICES && port_surface(s, 0) == PORT_REFUSED_TWO_SLICES);
 
     /* taus 1, 2, 4 at 2: the segment 0 to 1 at its end */
     PortSviSlice three[3] = {s[0], s[1], s[3]};
@@ -96,33 +96,33 @@ static void surfaces(void)
     EXPECT(b.number == 0 && b.lo == 0 && b.hi == 1 && b.x == 0);
     b = port_bracket(s, 2, PORT_REJECT, 0, 1.5);
     EXPECT(b.number == 0 && b.lo == 0 && b.hi == 1 && b.x == 0.5);
-    EXPECT(port_bracket(s, 2, PORT_REJECT, 0, 2.5).number == PORT_BEYOND_LAST);
+    EXPECT(port_bracket(s, 2, PORT_REJECT, 0, 2.5).number == PORT_REFUSED_BEYOND_LAST);
     b = port_bracket(s, 2, PORT_REJECT, 0, 0.5);
-    EXPECT(b.number == PORT_BEFORE_FIRST && !b.below && b.lo == 0 && b.hi == 0 && b.x == 0);
-    EXPECT(port_bracket(s, 2, 7, 0, 0.5).number == PORT_BEFORE_FIRST);
+    EXPECT(b.number == PORT_REFUSED_BEFORE_FIRST && !b.below && b.lo == 0 && b.hi == 0 && b.x == 0);
+    EXPECT(port_bracket(s, 2, 7, 0, 0.5).number == PORT_REFUSED_BEFORE_FIRST);
     b = port_bracket(s, 2, PORT_CONSTANT_VOL, 0, 0.5);
     EXPECT(b.number == 0 && b.below);
-    EXPECT(port_bracket(s, 2, PORT_REJECT, NAN, 1).number == PORT_POINT_K && port_bracket(s, 2, PORT_REJECT, 0, NAN).number == PORT_POINT_TAU);
+    EXPECT(port_bracket(s, 2, PORT_REJECT, NAN, 1).number == PORT_REFUSED_POINT_K && port_bracket(s, 2, PORT_REJECT, 0, NAN).number == PORT_REFUSED_POINT_TAU);
 
     EXPECT(port_region(s, 2, PORT_REJECT, 0.5, 1.5).calibrated && !port_region(s, 2, PORT_REJECT, 1.5, 1.5).calibrated);
-    EXPECT(!port_region(s, 2, PORT_CONSTANT_VOL, 0, 0.5).calibrated && port_region(s, 2, PORT_REJECT, 0, 0.5).number == PORT_BEFORE_FIRST);
+    EXPECT(!port_region(s, 2, PORT_CONSTANT_VOL, 0, 0.5).calibrated && port_region(s, 2, PORT_REJECT, 0, 0.5).number == PORT_REFUSED_BEFORE_FIRST);
 
     PortTotalAnswer t = port_total_variance(s, 2, PORT_REJECT, 0, 1.5);
     EXPECT(t.number == 0 && t.total.w == 2.25 && t.total.w_k == 0 && t.total.w_kk > 0 && t.total.w_tau == 1);
     t = port_total_variance(s, 2, PORT_CONSTANT_VOL, 0, 0.5);
     EXPECT(t.number == 0 && t.total.w == 0.875 && t.total.w_tau == 1.75);
-    EXPECT(port_total_variance(s, 2, PORT_REJECT, 0, 3).number == PORT_BEYOND_LAST);
+    EXPECT(port_total_variance(s, 2, PORT_REJECT, 0, 3).number == PORT_REFUSED_BEYOND_LAST);
 
     double ks[65], taus[65];
     for (int i = 0; i < 65; i++)
         ks[i] = -1 + i / 32.0, taus[i] = 1 + i;
     EXPECT(port_covers_nodes(three, 3, ks, 64, taus, 4).all && port_covers_nodes(three, 3, ks, 64, taus, 4).number == 0);
     EXPECT(!port_covers_nodes(three, 3, ks, 64, taus, 3).all && port_covers_nodes(three, 3, ks, 64, taus, 3).number == 0);
-    EXPECT(port_covers_nodes(three, 3, ks, 65, taus, 4).number == PORT_SIZE);
-    EXPECT(port_covers_nodes(three, 3, ks, 0, taus, 4).number == PORT_K_AXIS && port_covers_nodes(three, 3, ks, 2, taus, 0).number == PORT_TAU_AXIS);
+    EXPECT(port_covers_nodes(three, 3, ks, 65, taus, 4).number == PORT_REFUSED_SIZE);
+    EXPECT(port_covers_nodes(three, 3, ks, 0, taus, 4).number == PORT_REFUSED_K_AXIS && port_covers_nodes(three, 3, ks, 2, taus, 0).number == PORT_REFUSED_TAU_AXIS);
 
     s[1].tau = 1;
-    EXPECT(port_surface(s, 2) == PORT_TAU_ORDER && port_bracket(s, 2, PORT_REJECT, NAN, NAN).number == PORT_TAU_ORDER);
+    EXPECT(port_surface(s, 2) == PORT_REFUSED_TAU_ORDER && port_bracket(s, 2, PORT_REJECT, NAN, NAN).number == PORT_REFUSED_TAU_ORDER);
 }
 
 static void diagnostics(void)
@@ -139,7 +139,7 @@ static void diagnostics(void)
     EXPECT(port_report_clean(d.report) && d.report.evaluation_failures == 0 && room[0] == -77);
     d = port_diagnose(s, 2, PORT_REJECT, ks, NK, taus, NT, config, room, ROOM);
     EXPECT(d.number == 0 && d.report.evaluation_failures == 3 && !port_report_clean(d.report) && port_check_clean(d.report.butterfly));
-    EXPECT(room[0] == -1 && room[1] == 3 && room[2] == PORT_BEYOND_LAST && room[8] == PORT_BEYOND_LAST && room[9] == -77);
+    EXPECT(room[0] == -1 && room[1] == 3 && room[2] == PORT_REFUSED_BEYOND_LAST && room[8] == PORT_REFUSED_BEYOND_LAST && room[9] == -77);
     s[1].a = 0.125;
     d = port_diagnose(s, 2, PORT_REJECT, ks, NK, taus, 3, config, room, ROOM);
     EXPECT(d.number == 0 && d.report.calendar_gap.violations == 6 && !port_check_clean(d.report.calendar_gap));
@@ -147,13 +147,13 @@ static void diagnostics(void)
 
     room[0] = -77;
     d = port_diagnose(s, 2, PORT_REJECT, ks, NK, taus, NT, config, room, ROOM - 1);
-    EXPECT(d.number == PORT_LENGTHS && d.report.butterfly.points == 0 && room[0] == -77);
-    EXPECT(port_diagnose(s, 1, PORT_REJECT, ks, NK, taus, NT, config, room, ROOM).number == PORT_TWO_SLICES);
-    EXPECT(port_diagnose(s, 2, PORT_REJECT, ks, 0, taus, NT, config, room, ROOM).number == PORT_K_AXIS);
+    EXPECT(d.number == PORT_REFUSED_LENGTHS && d.report.butterfly.points == 0 && room[0] == -77);
+    EXPECT(port_diagnose(s, 1, PORT_REJECT, ks, NK, taus, NT, config, room, ROOM).number == PORT_REFUSED_TWO_SLICES);
+    EXPECT(port_diagnose(s, 2, PORT_REJECT, ks, 0, taus, NT, config, room, ROOM).number == PORT_REFUSED_K_AXIS);
     taus[3] = 2;
-    EXPECT(port_diagnose(s, 2, PORT_REJECT, ks, NK, taus, NT, config, room, ROOM).number == PORT_TAU_AXIS);
+    EXPECT(port_diagnose(s, 2, PORT_REJECT, ks, NK, taus, NT, config, room, ROOM).number == PORT_REFUSED_TAU_AXIS);
     config.calendar_tolerance = NAN;
-    EXPECT(port_diagnose(s, 2, PORT_REJECT, ks, NK, taus, 3, config, room, ROOM).number == PORT_TOLERANCE && room[0] == -77);
+    EXPECT(port_diagnose(s, 2, PORT_REJECT, ks, NK, taus, 3, config, room, ROOM).number == PORT_REFUSED_TOLERANCE && room[0] == -77);
 
     PortCheck check;
     memset(&check, 0, sizeof check);

@@ -1,42 +1,50 @@
-/* Fits seven quotes and prices strikes off the curve.
+/* Fits quotes as they came in, one of them sent nine times, and prices strikes off the curve.
  *   cc -I include examples/c/fit.c target/staticlib/libport.a -lm -o fit && ./fit */
 #include "kesupayro.h"
 
+#include <inttypes.h>
 #include <math.h>
 #include <stdio.h>
 
-enum { QUOTES = 7 };
+enum { STRIKES = 7, RETRIES = 8, QUOTES = STRIKES + RETRIES, STALE = 3 };
 
-static const double strikes[QUOTES] = {82, 88, 94, 100, 106, 112, 118};
-static const double vols[QUOTES] = {0.355, 0.304, 0.252, 0.258, 0.209, 0.228, 0.252};
+static const double strikes[STRIKES] = {82, 88, 94, 100, 106, 112, 118};
+static const double vols[STRIKES] = {0.355, 0.304, 0.252, 0.258, 0.209, 0.228, 0.252};
 static const double forward = 100, tau = 0.25;
 
-/* Implied volatility of a fitted slice at k. */
-static double vol_at(PortSviSlice s, double k)
+/* Implied volatility of a slice at k, or 0 where it does not evaluate. */
+static double vol_at(PortSviSlice slice, double k)
 {
-    double x = k - s.m;
-    return sqrt((s.a + s.b * (s.rho * x + hypot(x, s.sigma))) / s.tau);
+    PortValuesAnswer at = port_eval(slice, k);
+    return at.number == 0 ? sqrt(at.w / slice.tau) : 0;
 }
 
 int main(void)
 {
-    double k[QUOTES], w[QUOTES], weight[QUOTES], residuals[4 * QUOTES];
-    size_t capped[QUOTES];
-    for (int i = 0; i < QUOTES; i++) {
-        k[i] = log(strikes[i] / forward);
-        w[i] = vols[i] * vols[i] * tau;
-        weight[i] = 1;
-    }
-
-    PortFitAnswer answer = port_fit_slice(tau, port_default_config(), k, QUOTES, w, QUOTES, weight, QUOTES,
-                                      residuals, 4 * QUOTES, capped, QUOTES);
-    if (answer.number != PORT_FITTED) {
-        printf("refused: %u\n", (unsigned)answer.number);
+    if (port_abi() != PORT_ABI) {
+        fprintf(stderr, "this program was compiled for ABI number %lu, the library has %" PRIu32 ": docs/ABI.md\n", (unsigned long)PORT_ABI, port_abi());
         return 1;
     }
-    printf("fitted, %.2f vol points rmse, %zu passes\n", 100 * answer.rmse_vol, answer.counts.passes);
-    for (int i = 0; i < QUOTES; i++)
+    PortQuote quotes[QUOTES];
+    double residuals[4 * QUOTES];
+    uint64_t capped[QUOTES];
+    for (int i = 0; i < QUOTES; i++) {
+        int j = i < STRIKES ? i : STALE; /* the offline queue sends the stale quote again and again */
+        quotes[i].number = 101 + (uint64_t)j;
+        quotes[i].k = log(strikes[j] / forward);
+        quotes[i].w = vols[j] * vols[j] * tau;
+        quotes[i].weight = 1;
+    }
+
+    PortQuotesAnswer answer = port_fit_quotes(tau, port_default_config(), quotes, QUOTES, residuals, 4 * QUOTES, capped, QUOTES);
+    printf("%" PRIu64 " quotes read, %" PRIu64 " kept\n", answer.read, answer.kept);
+    if (answer.fit.number != PORT_FITTED) {
+        printf("refused: %" PRIu32 "\n", answer.fit.number);
+        return 1;
+    }
+    printf("fitted, %.2f vol points rmse, %" PRIu64 " passes\n", 100 * answer.fit.rmse_vol, answer.fit.counts.passes);
+    for (int i = 0; i < STRIKES; i++)
         printf("strike %3.0f  quoted %.1f %%  fitted %.1f %%  residual %+.1f\n",
-               strikes[i], 100 * vols[i], 100 * vol_at(answer.slice, k[i]), 100 * residuals[4 * i + 3]);
+               strikes[i], 100 * vols[i], 100 * vol_at(answer.fit.slice, quotes[i].k), 100 * residuals[4 * i + 3]);
     return 0;
 }
