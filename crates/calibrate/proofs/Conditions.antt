@@ -90,7 +90,7 @@ module _ (s : SviSlice) (ks ws ts : List Float) where
 
 module _ (c : FitConfig) (s : SviSlice) (ks ws ts : List Float) («a_max» objective : Float) where
   abbrev bound : Float
-  bound = objective +f (f64 0x3e11_2e0b_e826_d695 *f objective +f c .«feasibility_tolerance» *f judge.totalOf s ks ws ts *f «a_max» *f «a_max»)
+  bound = objective +f (f64 0x3e11_2e0b_e826_d695 *f objective +f c .«feasibility_tolerance» *f judge.totalWeight s ks ws ts *f «a_max» *f «a_max»)
 
   pub slice-fails : eqb (numberOf s) 0 ≡ false → OutOfDomain c s ks ws ts «a_max» objective
   slice-fails h = judge.bad-slice (eqb-false _ _ h)

@@ -57,8 +57,8 @@ module _ (tau : Float) (c : FitConfig) (ks ws ts : List Float) (room slots : ℕ
   NoneBefore n = (m : ℕ) → turn m < turn n → ¬ Fails m
 
   -- what refusal n hands back: zeros, but for 3 the observations given and wanted, for 9 rmse_vol as worked out and the largest accepted, for 6 to 9 the counts of the search
-  unfoldable pub refusalOf : ℕ → FitAnswer
-  refusalOf n =
+  unfoldable pub refusalAnswer : ℕ → FitAnswer
+  refusalAnswer n =
       refusedWith n (cond (eqb n 3) (length ks) 0) (cond (eqb n 3) (c .«min_observations») 0)
       (cond (eqb n 9) (rmseAt tried ks ws (scaledFor c ts)) +0) (cond (eqb n 9) (c .«max_rmse_vol») +0)
       (cond (leb 6 n && leb n 9) (searchFor c ks ws ts .counts) noCounts)

@@ -20,7 +20,7 @@ use Rattle.weights.specs.Weights.{scaledOf, allGood}
 use Rattle.weights.proofs.Places.{scaled-length}
 use Rattle.records.specs.declared.FitConfig.{FitConfig}
 use Rattle.records.specs.Settings.{settingsHold, sizesHold}
-use Rattle.entry.specs.Entry.{lengthsHold, allPass}
+use Rattle.entry.specs.Entry.{lengthsHold, columnsPass}
 use Rattle.records.specs.Observation.{passes}
 use Rattle.entry.proofs.Known.{lengths-are}
 use Rattle.entry.specs.When as when
@@ -154,17 +154,17 @@ module _ (ks ws ts : List Float) where
   abbrev Bad : Type 0
   Bad = Some (length ks) (λ i. BadObservation (at ks i) (at ws i) (at ts i))
 
-  pub observations-fail : allPass ks ws ts ≡ false → Bad
-  unfolding allPass
+  pub observations-fail : columnsPass ks ws ts ≡ false → Bad
+  unfolding columnsPass
   observations-fail h =
       let s = some-fails (λ i. passes (at ks i) (at ws i) (at ts i)) (length ks) h in
       (s .0, s .1, passes-fail (at ks (s .0)) (at ws (s .0)) (at ts (s .0)) (s .2))
 
-  pub observations-pass : allPass ks ws ts ≡ true → (i : ℕ) → i < length ks → passes (at ks i) (at ws i) (at ts i) ≡ true
-  unfolding allPass
+  pub observations-pass : columnsPass ks ws ts ≡ true → (i : ℕ) → i < length ks → passes (at ks i) (at ws i) (at ts i) ≡ true
+  unfolding columnsPass
   observations-pass = none-fails (λ i. passes (at ks i) (at ws i) (at ts i)) (length ks)
 
-  pub observations-refute : allPass ks ws ts ≡ true → Bad → ⊥
+  pub observations-refute : columnsPass ks ws ts ≡ true → Bad → ⊥
   observations-refute h s = passes-refute (at ks (s .0)) (at ws (s .0)) (at ts (s .0)) (observations-pass h (s .0) (s .1)) (s .2)
 
 -- ---- 1

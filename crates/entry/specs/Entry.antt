@@ -18,8 +18,8 @@ use Rattle.records.specs.Observation.{passes}
 unfoldable pub lengthsHold : List Float → List Float → List Float → ℕ → ℕ → Bool
 lengthsHold ks ws ts room slots = eqb (length ks) (length ws) && eqb (length ks) (length ts) && leb (length ks * 4) room && leb (length ks) slots
 
-unfoldable pub allPass : List Float → List Float → List Float → Bool
-allPass ks ws ts = for 0 (length ks) (λ i b. b && passes (at ks i) (at ws i) (at ts i)) true
+unfoldable pub columnsPass : List Float → List Float → List Float → Bool
+columnsPass ks ws ts = for 0 (length ks) (λ i b. b && passes (at ks i) (at ws i) (at ts i)) true
 
 -- k_min and k_max, from +infinity and -infinity
 unfoldable pub rangeOf : List Float → KRange
@@ -34,7 +34,7 @@ unfoldable pub checksNumber : Float → FitConfig → List Float → List Float 
 checksNumber tau c ks ws ts room slots =
     unless (lengthsHold ks ws ts room slots) 12
     (unless (sizesHold (length ks) c) 11
-    (unless (allPass ks ws ts) 10
+    (unless (columnsPass ks ws ts) 10
     (unless (settingsHold c) 1
     (unless (positive tau) 2
     (unless (leb (c .«min_observations») (length ks)) 3

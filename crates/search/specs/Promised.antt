@@ -100,7 +100,7 @@ pub record Promised (f : CellFn) (g : FaceFn) (top : ℕ) (p : Plan) (s : Search
   -- in each pass before the last some face qualifies
   pub earlier : (q : ℕ) → q < last → Yields f g p q
   -- where the search refuses, no face of the last pass qualifies
-  pub refusing : s .refused ≡ true → Yields f g p last → ⊥
+  pub faceless : s .refused ≡ true → Yields f g p last → ⊥
   -- where it does not refuse, some face of the last pass qualifies
   pub yielding : s .refused ≡ false → Yields f g p last
   -- no face that qualifies, in any cell of any pass made, has a smaller objective than the one found

@@ -39,8 +39,8 @@ rangedOf lo hi =
 -- ---- the tests
 
 -- three numbers, all finite
-abbrev pub three : Float → Float → Float → Bool
-three x y z = (finite x && finite y) && finite z
+abbrev pub threeFinite : Float → Float → Float → Bool
+threeFinite x y z = (finite x && finite y) && finite z
 
 -- the smallest total variance, a + b sigma sqrt(1 - rho^2)
 unfoldable pub lowestOf : SviSlice → Float
@@ -68,7 +68,7 @@ domainNumber s =
 unfoldable pub numberOf : SviSlice → ℕ
 numberOf s =
     unless (eqb (rangeNumber (s .«k_range»)) 0) (rangeNumber (s .«k_range»))
-    (unless (three (s .tau) (s .a) (s .b) && three (s .rho) (s .m) (s .sigma)) 22 (domainNumber s))
+    (unless (threeFinite (s .tau) (s .a) (s .b) && threeFinite (s .rho) (s .m) (s .sigma)) 22 (domainNumber s))
 
 -- `SviSlice::new`; a range that fails is 21 here too
 unfoldable pub madeOf : Float → Float → Float → Float → Float → Float → KRange → Made
@@ -115,7 +115,7 @@ valuesOf s k = valuesAt s (k -f s .m) (hypotOf (k -f s .m) (s .sigma))
 -- 30, a result that is not finite; 31, no curvature where b > 0
 unfoldable pub judgedOf : Float → Values → Evaluated
 judgedOf b v =
-    unless (three (v .w) (v .«w_k») (v .«w_kk»)) (evaluated.Refused 30)
+    unless (threeFinite (v .w) (v .«w_k») (v .«w_kk»)) (evaluated.Refused 30)
     (cond (lt +0 b && le (v .«w_kk») +0) (evaluated.Refused 31) (evaluated.At v))
 
 -- of a slice that has passed its tests: 29, k; then as judged

@@ -111,11 +111,11 @@ unfoldable pub rightSum : ℕ → List Float → List Float → ℕ → Float
 rightSum n m x row = for (row + 1) n (λ j tail. tail +f entry m row j *f at x j) +0
 
 -- a value that is not finite refuses
-unfoldable pub placed : ℕ → Float → Solved → Solved
-placed row value t = unless (finite value) refused (record { ok = true; x = set (t .x) row value })
+unfoldable pub withValue : ℕ → Float → Solved → Solved
+withValue row value t = unless (finite value) refused (record { ok = true; x = set (t .x) row value })
 
 unfoldable pub backRowOf : ℕ → List Float → List Float → ℕ → Solved → Solved
-backRowOf n m rhs row t = cond (t .ok) (placed row ((at rhs row -f rightSum n m (t .x) row) /f entry m row row) t) t
+backRowOf n m rhs row t = cond (t .ok) (withValue row ((at rhs row -f rightSum n m (t .x) row) /f entry m row row) t) t
 
 unfoldable pub backOf : ℕ → List Float → List Float → Solved
 backOf n m rhs = for 0 n (λ k t. backRowOf n m rhs (n - 1 - k) t) (record { ok = true; x = replicate 6 +0 })

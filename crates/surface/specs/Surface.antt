@@ -112,17 +112,17 @@ totalRun run policy k tau =
 -- ---- a grid that holds every node
 
 abbrev pub allHeldTurn : List SviSlice → List Float → ℕ → Bool → Bool
-allHeldTurn recs tau i ok = ok && heldOf tau (sliceAt recs i .tau)
+allHeldTurn recs taus i ok = ok && heldOf taus (sliceAt recs i .tau)
 
 unfoldable pub allHeld : List SviSlice → ℕ → List Float → Bool
-allHeld recs n tau = for 0 n (allHeldTurn recs tau) true
+allHeld recs n taus = for 0 n (allHeldTurn recs taus) true
 
 -- 11, an axis over 64; the surface's numbers; 40 and 41
-unfoldable pub entryNumber : Run → List Float → List Float → ℕ
-entryNumber run k tau =
-    cond (ltb 64 (length k) || ltb 64 (length tau)) 11
+unfoldable pub surfaceGridNumber : Run → List Float → List Float → ℕ
+surfaceGridNumber run ks taus =
+    cond (ltb 64 (length ks) || ltb 64 (length taus)) 11
     (unless (eqb (checkRun run) 0) (checkRun run)
-    (gridNumber k tau))
+    (gridNumber ks taus))
 
 abbrev pub coveredBy : Bool → Covered
 coveredBy true = covered.All
@@ -130,4 +130,4 @@ coveredBy false = covered.NotAll
 
 -- `covers_nodes`: the tau axis holds the bits of every node
 unfoldable pub coversRun : Run → List Float → List Float → Covered
-coversRun run k tau = unless (eqb (entryNumber run k tau) 0) (covered.Refused (entryNumber run k tau)) (coveredBy (allHeld (run .recs) (run .count) tau))
+coversRun run ks taus = unless (eqb (surfaceGridNumber run ks taus) 0) (covered.Refused (surfaceGridNumber run ks taus)) (coveredBy (allHeld (run .recs) (run .count) taus))
