@@ -11,8 +11,9 @@ use lib.ListN.{length}
 use lib.Ieee.{Float}
 use borrow.Author.Tests.{eq-eqb, ne-eqb, leb-true, leb-false, le-leb, lt-leb}
 use Rattle.laws.specs.Choice.{unless}
+use Rattle.laws.specs.Some.{Some}
 use Rattle.laws.specs.Floats.{at, positive}
-use Rattle.laws.proofs.Choices.{cond-test}
+use Rattle.laws.proofs.Choices.{cond-test, off}
 use Rattle.laws.proofs.Comparing.{lt-or-le}
 use Rattle.slice.specs.declared.SviSlice.{SviSlice}
 use Rattle.slice.specs.Slice.{numberOf}
@@ -24,12 +25,11 @@ use Rattle.judge.specs.Judge.{sumsOf, paramsHold, rmseHolds}
 use Rattle.calibrate.specs.Fit.{aMaxFor, scaledFor, searchFor, fitOf}
 use Rattle.calibrate.proofs.EachNumber.{lateNumber, answer-number}
 use Rattle.calibrate.specs.When as when
-use Rattle.entry.specs.When.{Some, UnequalOrShort, OverSize, BadObservation, BadSettings, EntryFails}
+use Rattle.entry.specs.When.{UnequalOrShort, OverSize, BadObservation, BadSettings, EntryFails}
 use Rattle.calibrate.specs.When.{FacelessPass, OnEdge, turn}
 use Rattle.judge.specs.When.{OutOfDomain, RmseAboveMax, rmseAt}
 use Rattle.entry.specs.When as entry
 use Rattle.entry.proofs.Conditions as test
-use Rattle.entry.proofs.Conditions.{off}
 use Rattle.calibrate.proofs.Conditions as late
 
 -- ---- the order

@@ -19,7 +19,7 @@ use Rattle.records.specs.Settings.{settingsHold, sizesHold}
 use Rattle.entry.specs.Entry.{rangeOf, lengthsHold, columnsPass, spanOf, checksNumber, entryNumber}
 use Rattle.records.specs.Answer.{noCounts, refusedWith}
 use Rattle.judge.specs.Judge.{sumsOf, paramsHold, rmseHolds}
-use Rattle.calibrate.specs.End.{acceptedOf, endOf}
+use Rattle.calibrate.specs.End.{refusedAfter, acceptedOf, endOf}
 use Rattle.calibrate.specs.Fit.{aMaxFor, scaledFor, searchFor, sliceFrom, bestEnd, searchEnd, decidedOf, refusedEarly, cappedAs, fitOf}
 use Rattle.calibrate.specs.When.{refusalAnswer}
 use Rattle.judge.specs.When.{rmseAt}
@@ -114,7 +114,7 @@ module _ (tau : Float) (c : FitConfig) (ks ws ts : List Float) (room slots : ℕ
   carries-3 = carries 3 (λ z. omega arith)
 
   -- 8: nothing but the counts of the search
-  pub carries-8 : answer .number ≡ 8 → answer ≡ refusedWith 8 0 0 +0 +0 counts
+  pub carries-8 : answer .number ≡ 8 → answer ≡ refusedAfter 8 counts
   unfolding refusalAnswer
   carries-8 = carries 8 (λ z. omega arith)
 

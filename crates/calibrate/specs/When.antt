@@ -7,6 +7,7 @@ use Prim.Native.Nat.{ℕ, _+_, _-_, _<_}
 use lib.Dec.{eqb, leb}
 use lib.ListN.{length}
 use lib.Ieee.{Float}
+use Rattle.laws.specs.Some.{Some}
 use Rattle.laws.specs.Floats.{+0}
 use Rattle.slice.specs.declared.SviSlice.{SviSlice}
 use Rattle.search.specs.declared.Plan.{Plan}
@@ -14,7 +15,7 @@ use Rattle.search.specs.Search.{CellFn, cellAt, afterPasses}
 use Rattle.search.specs.Run.{fitCell}
 use Rattle.records.specs.declared.FitConfig.{FitConfig}
 use Rattle.records.specs.declared.FitAnswer.{FitAnswer}
-use Rattle.entry.specs.When.{Some, EntryFails}
+use Rattle.entry.specs.When.{EntryFails}
 use Rattle.judge.specs.When.{rmseAt, OutOfDomain, RmseAboveMax}
 use Rattle.entry.specs.Entry.{rangeOf}
 use Rattle.records.specs.Answer.{noCounts, refusedWith}

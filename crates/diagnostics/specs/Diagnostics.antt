@@ -5,7 +5,7 @@ use Prim.Native.Nat.{ℕ, _*_}
 use lib.Dec.{eqb, ltb}
 use lib.ListN.{length}
 use lib.Ieee.{Float, le}
-use Rattle.laws.specs.Choice.{unless}
+use Rattle.laws.specs.Choice.{unless, refusing}
 use Rattle.laws.specs.Floats.{f64, +0, finite}
 use Rattle.surface.specs.declared.types.Run.{Run}
 use Rattle.surface.specs.declared.types.ShortExpiryPolicy.{ShortExpiryPolicy}
@@ -35,7 +35,7 @@ toleranceNumber t = unless (tolerable (t .«butterfly_tolerance») && tolerable 
 unfoldable pub diagnoseNumber : Run → List Float → List Float → DiagnosticsConfig → ℕ → ℕ
 diagnoseNumber run ks taus tol room =
     cond (ltb room (3 * (length ks * length taus))) 12
-    (unless (eqb (surfaceGridNumber run ks taus) 0) (surfaceGridNumber run ks taus)
+    (refusing (surfaceGridNumber run ks taus) (λ n. n)
     (toleranceNumber tol))
 
 unfoldable pub reportOf : Walk → SurfaceDiagnostics
@@ -59,7 +59,7 @@ reported st = withRoom (Done (reportOf (st .walk))) (st .room)
 -- `diagnose`: a refusal leaves the room as it was
 unfoldable pub diagnoseOf : Run → ShortExpiryPolicy → List Float → List Float → DiagnosticsConfig → List Float → WithRoom
 diagnoseOf run policy ks taus tol room =
-    unless (eqb (diagnoseNumber run ks taus tol (length room)) 0) (withRoom (Refused (diagnoseNumber run ks taus tol (length room))) room)
+    refusing (diagnoseNumber run ks taus tol (length room)) (λ n. withRoom (Refused n) room)
     (reported (walkOf (seenOn (run .recs) (tausOf (run .recs)) (tolsOf run) (run .count) policy) tol ks taus room))
 
 -- the number of an answer: 0 for a report

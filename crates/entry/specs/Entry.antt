@@ -6,7 +6,7 @@ use lib.Dec.{eqb, leb}
 use lib.ListN.{length}
 use lib.Ieee.{Float, neg}
 use Rattle.laws.specs.Loop.{for}
-use Rattle.laws.specs.Choice.{unless}
+use Rattle.laws.specs.Choice.{unless, refusing}
 use Rattle.laws.specs.Floats.{_-f_, _/f_, +0, one, at, positive, minOf, maxOf}
 use Rattle.slice.specs.declared.KRange.{KRange}
 use Rattle.weights.specs.Weights.{scaledOf, allGood}
@@ -44,7 +44,6 @@ checksNumber tau c ks ws ts room slots =
 -- and last the scaled weights
 unfoldable pub entryNumber : Float → FitConfig → List Float → List Float → List Float → ℕ → ℕ → ℕ
 entryNumber tau c ks ws ts room slots =
-    let first = checksNumber tau c ks ws ts room slots in
-    unless (eqb first 0) first
+    refusing (checksNumber tau c ks ws ts room slots) (λ n. n)
     (unless (allGood (scaledOf (c .«max_weight_ratio») ts)) 5
     0)

@@ -5,7 +5,7 @@ use Prim.Native.Nat.{ℕ, zero, suc, _-_}
 use lib.Dec.{eqb, ltb}
 use lib.ListN.{getD, set, length, replicate}
 use lib.Ieee.{Float, nan, lt}
-use Rattle.laws.specs.Choice.{unless}
+use Rattle.laws.specs.Choice.{unless, refusing}
 use Rattle.laws.specs.Floats.{+0, at}
 use Rattle.laws.specs.Loop.{for}
 use Rattle.slice.specs.declared.SviSlice.{SviSlice}
@@ -59,6 +59,6 @@ risesOf taus n = for 1 n (riseTurn taus) true
 unfoldable pub checkRun : Run → ℕ
 checkRun run =
     cond (ltb 32 (run .count)) 11
-    (unless (eqb (firstBad (run .recs) (run .count)) 0) (firstBad (run .recs) (run .count))
+    (refusing (firstBad (run .recs) (run .count)) (λ n. n)
     (cond (ltb (run .count) 2) 32
     (unless (risesOf (tausOf (run .recs)) (run .count)) 33 0)))

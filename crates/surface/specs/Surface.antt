@@ -2,10 +2,10 @@
 use mathlib.Core.Bool.{Bool, true, false, _&&_, _||_, cond}
 use mathlib.Core.List.{List}
 use Prim.Native.Nat.{ℕ}
-use lib.Dec.{eqb, ltb}
+use lib.Dec.{ltb}
 use lib.ListN.{length}
 use lib.Ieee.{Float}
-use Rattle.laws.specs.Choice.{unless}
+use Rattle.laws.specs.Choice.{refusing}
 use Rattle.laws.specs.Floats.{_+f_, _-f_, _*f_, _/f_, one}
 use Rattle.laws.specs.Loop.{for}
 use Rattle.slice.specs.declared.SviSlice.{SviSlice}
@@ -97,16 +97,16 @@ bracketIn run policy k tau = bracketOf (tausOf (run .recs)) (tolsOf run) (run .c
 
 -- `bracket`
 unfoldable pub bracketRun : Run → ShortExpiryPolicy → Float → Float → Bracket
-bracketRun run policy k tau = unless (eqb (checkRun run) 0) (Refused (checkRun run)) (bracketIn run policy k tau)
+bracketRun run policy k tau = refusing (checkRun run) Refused (bracketIn run policy k tau)
 
 -- `region`
 unfoldable pub regionRun : Run → ShortExpiryPolicy → Float → Float → Region
-regionRun run policy k tau = unless (eqb (checkRun run) 0) (region.Refused (checkRun run)) (regionIn (run .recs) (bracketIn run policy k tau) k)
+regionRun run policy k tau = refusing (checkRun run) region.Refused (regionIn (run .recs) (bracketIn run policy k tau) k)
 
 -- `total_variance`
 unfoldable pub totalRun : Run → ShortExpiryPolicy → Float → Float → Total
 totalRun run policy k tau =
-    unless (eqb (checkRun run) 0) (total.Refused (checkRun run))
+    refusing (checkRun run) total.Refused
     (varianceAt (run .recs) (tausOf (run .recs)) (tolsOf run) (run .count) policy k tau)
 
 -- ---- a grid that holds every node
@@ -121,7 +121,7 @@ allHeld recs n taus = for 0 n (allHeldTurn recs taus) true
 unfoldable pub surfaceGridNumber : Run → List Float → List Float → ℕ
 surfaceGridNumber run ks taus =
     cond (ltb 64 (length ks) || ltb 64 (length taus)) 11
-    (unless (eqb (checkRun run) 0) (checkRun run)
+    (refusing (checkRun run) (λ n. n)
     (gridNumber ks taus))
 
 abbrev pub coveredBy : Bool → Covered
@@ -130,4 +130,4 @@ coveredBy false = covered.NotAll
 
 -- `covers_nodes`: the tau axis holds the bits of every node
 unfoldable pub coversRun : Run → List Float → List Float → Covered
-coversRun run ks taus = unless (eqb (surfaceGridNumber run ks taus) 0) (covered.Refused (surfaceGridNumber run ks taus)) (coveredBy (allHeld (run .recs) (run .count) taus))
+coversRun run ks taus = refusing (surfaceGridNumber run ks taus) covered.Refused (coveredBy (allHeld (run .recs) (run .count) taus))
