@@ -1,4 +1,5 @@
 -- The end of the fit, from the best cell of the search to the answer. Every operation is rounded once, in the order written. Definitions only.
+-- docs/METHOD.md, 'The end'.
 use mathlib.Core.Bool.{Bool, false, _||_, cond}
 use mathlib.Core.List.{List}
 use Prim.Native.Nat.{ℕ}

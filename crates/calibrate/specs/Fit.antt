@@ -1,4 +1,5 @@
 -- The fit: what `fit_slice` answers, and what it leaves in the two lent buffers. Definitions only.
+-- docs/METHOD.md, 'The search over m and ln sigma', 'The end'.
 use mathlib.Core.Path.{_≡_}
 use mathlib.Core.Bool.{Bool, cond}
 use mathlib.Core.List.{List, [], _∷_, _++_}

@@ -1,5 +1,6 @@
 -- When a fit is refused: the condition of each of document 01's numbers, and the order in which they are asked. Definitions only.
 -- The conditions of the entry checks (12, 11, 10, 1 to 5) stand in entry/specs/When.antt, those of a slice (8, 9) in judge/specs/When.antt: they speak of no search.
+-- docs/METHOD.md, 'The search over m and ln sigma', 'The end'.
 use mathlib.Core.Path.{_≡_}
 use mathlib.Core.Bool.{true, false, _&&_, cond}
 use mathlib.Core.List.{List}

@@ -1,4 +1,5 @@
 -- The diagnostics of a surface (diagnostics.rs: `DiagnosticsConfig`, `SurfaceDiagnostics`, `diagnose`): the tests in order, then the walk. Definitions only.
+-- docs/METHOD.md, 'Surfaces and diagnostics'.
 use mathlib.Core.Bool.{Bool, _&&_, cond}
 use mathlib.Core.List.{List}
 use Prim.Native.Nat.{ℕ, _*_}

@@ -1,4 +1,5 @@
 -- The walk over a grid (diagnostics.rs: `butterfly_g`, the loops of `diagnose`). Every operation is rounded once, in the order written. Definitions only.
+-- docs/METHOD.md, 'Surfaces and diagnostics'.
 use mathlib.Core.Bool.{true, false, cond}
 use mathlib.Core.List.{List}
 use Prim.Native.Nat.{ℕ, _+_, _*_}

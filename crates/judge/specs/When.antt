@@ -1,4 +1,5 @@
 -- When a slice fails on observations with weights: the conditions of document 01's numbers 8 and 9. Definitions only.
+-- docs/METHOD.md, 'The end'.
 use mathlib.Core.Path.{_≡_}
 use mathlib.Core.Bool.{true, false}
 use mathlib.Core.List.{List}

@@ -1,4 +1,5 @@
 -- What a point's functions answer (surface.rs: `check_point`, `TotalVariance`), on every input. Definitions only.
+-- docs/METHOD.md, 'Surfaces and diagnostics'.
 use mathlib.Core.Bool.{_&&_}
 use Prim.Native.Nat.{ℕ}
 use lib.Ieee.{Float}

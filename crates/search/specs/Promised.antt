@@ -1,4 +1,5 @@
 -- What is promised of a search, whatever its cells are: what it counts, which passes it makes, and that no face it tries is better than the one it chooses. Definitions only.
+-- docs/METHOD.md, 'What is promised of the minimum, and what is not'.
 use mathlib.Core.Path.{_≡_}
 use mathlib.Core.Logic.{_⊎_}
 use mathlib.Core.Bool.{true, false, _||_}

@@ -1,4 +1,5 @@
 -- What the functions of a slice answer (svi.rs: `KRange`, `SviSlice`), on every input. Every operation is rounded once, in the order written. Definitions only.
+-- docs/METHOD.md, 'The slice'.
 use mathlib.Core.Bool.{Bool, _&&_, cond}
 use Prim.Native.Nat.{ℕ}
 use lib.Ieee.{Float, lt, le}

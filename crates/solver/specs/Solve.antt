@@ -1,5 +1,6 @@
 -- `solve_linear` of calibrate.rs: Gaussian elimination with partial pivoting on the first n rows and columns of a 6 by 6 matrix, row by row in one list,
 -- and the substitution back. Every operation is rounded once, in the order written. Definitions only.
+-- docs/METHOD.md, 'One cell: every face of the polytope'.
 use mathlib.Core.Bool.{Bool, true, false, _&&_, _||_, cond}
 use mathlib.Core.List.{List}
 use Prim.Native.Nat.{ℕ, _+_, _-_, _*_}

@@ -1,4 +1,5 @@
 -- The axes of a diagnostic grid (diagnostics.rs: `DiagnosticGrid::new`). Definitions only.
+-- docs/METHOD.md, 'Surfaces and diagnostics'.
 use mathlib.Core.Bool.{Bool, true, false, _&&_, _||_, cond}
 use mathlib.Core.List.{List}
 use Prim.Native.Nat.{ℕ, _-_}

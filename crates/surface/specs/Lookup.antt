@@ -1,4 +1,5 @@
 -- The lookup of a tau among the nodes of a surface (svi.rs: `node_tolerance`, `bracket`). The tolerances are handed in. Definitions only.
+-- docs/METHOD.md, 'Surfaces and diagnostics'.
 use mathlib.Core.Bool.{Bool, cond}
 use mathlib.Core.List.{List}
 use Prim.Native.Nat.{ℕ, _+_, _-_}

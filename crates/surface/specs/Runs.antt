@@ -1,4 +1,5 @@
 -- A lent run of slice records, and the tests that make it a surface (svi.rs: `SviSurface::new`, after each record's own tests). Definitions only.
+-- docs/METHOD.md, 'Surfaces and diagnostics'.
 use mathlib.Core.Bool.{Bool, true, _&&_, cond}
 use mathlib.Core.List.{List, [], _∷_}
 use Prim.Native.Nat.{ℕ, zero, suc, _-_}

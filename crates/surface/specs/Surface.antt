@@ -1,4 +1,5 @@
 -- What a surface answers (svi.rs: `total_variance_at`, `region`, `covers_nodes`). Every operation is rounded once, in the order written. Definitions only.
+-- docs/METHOD.md, 'Surfaces and diagnostics'.
 use mathlib.Core.Bool.{Bool, true, false, _&&_, _||_, cond}
 use mathlib.Core.List.{List}
 use Prim.Native.Nat.{ℕ}

@@ -1,4 +1,5 @@
 -- Step 3 of the fit: the median weight, the cap, and the weights capped and scaled so that the largest is 1. Definitions only.
+-- docs/METHOD.md, 'Weights'.
 use mathlib.Core.Bool.{Bool, true, false, _&&_, cond}
 use mathlib.Core.List.{List, [], _∷_, _++_, map}
 use Prim.Native.Nat.{ℕ, _-_, _/_, _%_}
