@@ -11,7 +11,8 @@ use lib.Ieee.Bits.{is-true}
 use borrow.Author.Tests.{eqb-true, eqb-false}
 use Rattle.laws.specs.Loop.{turns, for}
 use Rattle.laws.specs.Floats.{_+f_, _*f_, f64, +0, at, finite}
-use Rattle.laws.proofs.Choices.{both, false-true}
+use Rattle.laws.proofs.Choices.{both, split, off, false-true}
+use Rattle.laws.proofs.Somes.{some-fails, none-fails}
 use Rattle.slice.specs.declared.SviSlice.{SviSlice}
 use Rattle.slice.specs.declared.Evaluated.{Evaluated}
 use Rattle.slice.specs.declared.Evaluated.the-variants as evaluated
@@ -28,7 +29,7 @@ use Rattle.judge.specs.Judge.{readingOf, residualAt, addedTo, sumsOf, paramsHol
 use Rattle.calibrate.specs.Fit.{planOf, limitsFor, planFor, fitSearch}
 use Rattle.calibrate.specs.When.{FacelessPass}
 use Rattle.judge.specs.When.{OutOfDomain, RmseAboveMax, rmseAt}
-use Rattle.entry.proofs.Conditions.{split, off, some-fails, none-fails, below, not-both, max-finite}
+use Rattle.entry.proofs.Conditions.{below, not-both, max-finite}
 use Rattle.judge.specs.When as judge
 
 -- ---- 6
@@ -90,7 +91,7 @@ module _ (s : SviSlice) (ks ws ts : List Float) where
 
 module _ (c : FitConfig) (s : SviSlice) (ks ws ts : List Float) («a_max» objective : Float) where
   abbrev bound : Float
-  bound = objective +f (f64 0x3e11_2e0b_e826_d695 *f objective +f c .«feasibility_tolerance» *f judge.totalOf s ks ws ts *f «a_max» *f «a_max»)
+  bound = objective +f (f64 0x3e11_2e0b_e826_d695 *f objective +f c .«feasibility_tolerance» *f judge.totalWeight s ks ws ts *f «a_max» *f «a_max»)
 
   pub slice-fails : eqb (numberOf s) 0 ≡ false → OutOfDomain c s ks ws ts «a_max» objective
   slice-fails h = judge.bad-slice (eqb-false _ _ h)

@@ -6,9 +6,9 @@ use Prim.Native.Nat.{ℕ}
 use lib.Dec.{eqb}
 use lib.ListN.{length}
 use lib.Ieee.{Float}
-use borrow.Author.Tests.{eq-eqb, ne-eqb}
+use borrow.Author.Tests.{ne-eqb}
 use Rattle.laws.specs.Choice.{unless}
-use Rattle.laws.proofs.Choices.{if-true, if-false}
+use Rattle.laws.proofs.Choices.{if-false}
 use Rattle.slice.specs.declared.SviSlice.{SviSlice}
 use Rattle.slice.specs.Slice.{numberOf}
 use Rattle.search.specs.declared.Search.{Search}
@@ -92,8 +92,3 @@ module _ (tau : Float) (c : FitConfig) (ks ws ts : List Float) (room slots : ℕ
   pub early-answer : (entry ≡ 0 → ⊥) → fitOf tau c ks ws ts room slots ≡ refusedEarly entry (length ks) (c .«min_observations»)
   unfolding fitOf
   early-answer h = sym (if-false _ (ne-eqb entry 0 h) refl)
-
-  -- an accepted fit, with how many weights were capped
-  pub accepted-answer : entry ≡ 0 → decided .number ≡ 0 → fitOf tau c ks ws ts room slots ≡ cappedAs decided (length (cappedOf (c .«max_weight_ratio») ts))
-  unfolding fitOf
-  accepted-answer h k = sym (if-true _ (eq-eqb entry 0 h) (if-true _ (eq-eqb (decided .number) 0 k) refl))

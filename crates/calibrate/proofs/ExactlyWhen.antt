@@ -11,25 +11,25 @@ use lib.ListN.{length}
 use lib.Ieee.{Float}
 use borrow.Author.Tests.{eq-eqb, ne-eqb, leb-true, leb-false, le-leb, lt-leb}
 use Rattle.laws.specs.Choice.{unless}
+use Rattle.laws.specs.Some.{Some}
 use Rattle.laws.specs.Floats.{at, positive}
-use Rattle.laws.proofs.Choices.{cond-test}
+use Rattle.laws.proofs.Choices.{cond-test, off}
 use Rattle.laws.proofs.Comparing.{lt-or-le}
 use Rattle.slice.specs.declared.SviSlice.{SviSlice}
 use Rattle.slice.specs.Slice.{numberOf}
 use Rattle.weights.specs.Weights.{allGood}
 use Rattle.records.specs.declared.FitConfig.{FitConfig}
 use Rattle.records.specs.Settings.{settingsHold, sizesHold}
-use Rattle.entry.specs.Entry.{lengthsHold, allPass, spanOf, checksNumber, entryNumber}
+use Rattle.entry.specs.Entry.{lengthsHold, columnsPass, spanOf, checksNumber, entryNumber}
 use Rattle.judge.specs.Judge.{sumsOf, paramsHold, rmseHolds}
 use Rattle.calibrate.specs.Fit.{aMaxFor, scaledFor, searchFor, fitOf}
 use Rattle.calibrate.proofs.EachNumber.{lateNumber, answer-number}
 use Rattle.calibrate.specs.When as when
-use Rattle.entry.specs.When.{Some, UnequalOrShort, OverSize, BadObservation, BadSettings, EntryFails}
+use Rattle.entry.specs.When.{UnequalOrShort, OverSize, BadObservation, BadSettings, EntryFails}
 use Rattle.calibrate.specs.When.{FacelessPass, OnEdge, turn}
 use Rattle.judge.specs.When.{OutOfDomain, RmseAboveMax, rmseAt}
 use Rattle.entry.specs.When as entry
 use Rattle.entry.proofs.Conditions as test
-use Rattle.entry.proofs.Conditions.{off}
 use Rattle.calibrate.proofs.Conditions as late
 
 -- ---- the order
@@ -162,7 +162,7 @@ module _ (tau : Float) (c : FitConfig) (ks ws ts : List Float) (room slots : ℕ
       (λ e. let c1 = next 0 (test.lengths-refute ks ws ts room slots e) none-yet in
       cond-test (Told 7) (sizesHold (length ks) c)
       (λ e. let c2 = next 1 (test.sizes-refute (length ks) c e) c1 in
-      cond-test (Told 7) (allPass ks ws ts)
+      cond-test (Told 7) (columnsPass ks ws ts)
       (λ e. let c3 = next 2 (test.observations-refute ks ws ts e) c2 in
       cond-test (Told 7) (settingsHold c)
       (λ e. let c4 = next 3 (test.settings-refute c e) c3 in

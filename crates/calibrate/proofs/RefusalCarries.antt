@@ -16,12 +16,12 @@ use Rattle.weights.specs.Weights.{allGood, cappedOf}
 use Rattle.records.specs.declared.FitConfig.{FitConfig}
 use Rattle.records.specs.declared.FitAnswer.{FitAnswer}
 use Rattle.records.specs.Settings.{settingsHold, sizesHold}
-use Rattle.entry.specs.Entry.{rangeOf, lengthsHold, allPass, spanOf, checksNumber, entryNumber}
+use Rattle.entry.specs.Entry.{rangeOf, lengthsHold, columnsPass, spanOf, checksNumber, entryNumber}
 use Rattle.records.specs.Answer.{noCounts, refusedWith}
 use Rattle.judge.specs.Judge.{sumsOf, paramsHold, rmseHolds}
-use Rattle.calibrate.specs.End.{acceptedOf, endOf}
+use Rattle.calibrate.specs.End.{refusedAfter, acceptedOf, endOf}
 use Rattle.calibrate.specs.Fit.{aMaxFor, scaledFor, searchFor, sliceFrom, bestEnd, searchEnd, decidedOf, refusedEarly, cappedAs, fitOf}
-use Rattle.calibrate.specs.When.{refusalOf}
+use Rattle.calibrate.specs.When.{refusalAnswer}
 use Rattle.judge.specs.When.{rmseAt}
 
 module _ (tau : Float) (c : FitConfig) (ks ws ts : List Float) (room slots : ℕ) where
@@ -39,7 +39,7 @@ module _ (tau : Float) (c : FitConfig) (ks ws ts : List Float) (room slots : ℕ
   counts = searchFor c ks ws ts .counts
 
   abbrev refusal : ℕ → FitAnswer
-  refusal = refusalOf tau c ks ws ts room slots
+  refusal = refusalAnswer tau c ks ws ts room slots
 
   -- ---- the entry
 
@@ -50,13 +50,13 @@ module _ (tau : Float) (c : FitConfig) (ks ws ts : List Float) (room slots : ℕ
   Early n = ¬ (n ≡ 0) → refusedEarly n (length ks) (c .«min_observations») ≡ refusal n
 
   early : Early entry
-  unfolding entryNumber checksNumber refusalOf
+  unfolding entryNumber checksNumber refusalAnswer
   early =
       cond-ind Early (eqb (checksNumber tau c ks ws ts room slots) 0)
       (cond-ind Early (allGood scaled) (λ h. absurd (h refl)) (λ h. refl))
       (cond-ind Early (lengthsHold ks ws ts room slots)
       (cond-ind Early (sizesHold (length ks) c)
-      (cond-ind Early (allPass ks ws ts)
+      (cond-ind Early (columnsPass ks ws ts)
       (cond-ind Early (settingsHold c)
       (cond-ind Early (positive tau)
       (cond-ind Early (leb (c .«min_observations») (length ks))
@@ -77,7 +77,7 @@ module _ (tau : Float) (c : FitConfig) (ks ws ts : List Float) (room slots : ℕ
   decided = decidedOf tau c ks ws scaled
 
   late : Late decided
-  unfolding decidedOf searchEnd bestEnd endOf refusalOf refusedWith acceptedOf rmseHolds
+  unfolding decidedOf searchEnd bestEnd endOf refusalAnswer refusedWith acceptedOf rmseHolds
   late =
       let t = sliceFrom tau c (rangeOf ks) (aMaxFor c ws) (searchFor c ks ws ts .found) in
       cond-ind Late (searchFor c ks ws ts .refused) (record { refused = λ h. refl; accepted = λ e. absurd (omega arith) })
@@ -101,7 +101,7 @@ module _ (tau : Float) (c : FitConfig) (ks ws ts : List Float) (room slots : ℕ
       cond-test P (eqb entry 0) (λ e. cond-test P (eqb (decided .number) 0) (λ e. z (eqb-true _ _ e)) (λ e. y (eqb-false _ _ e))) (λ e. x (eqb-false _ _ e))
 
   -- every refusal: its number decides what is in it
-  pub refusal-carries : ¬ (answer .number ≡ 0) → answer ≡ refusalOf tau c ks ws ts room slots (answer .number)
+  pub refusal-carries : ¬ (answer .number ≡ 0) → answer ≡ refusalAnswer tau c ks ws ts room slots (answer .number)
   unfolding refusedWith cappedAs
   refusal-carries = kinds (λ (a : FitAnswer). ¬ (a .number ≡ 0) → a ≡ refusal (a .number)) (λ z h. early z) (λ z h. late .refused z) (λ z h. absurd (h z))
 
@@ -110,17 +110,17 @@ module _ (tau : Float) (c : FitConfig) (ks ws ts : List Float) (room slots : ℕ
 
   -- 3: how many observations were given and wanted
   pub carries-3 : answer .number ≡ 3 → answer ≡ refusedWith 3 (length ks) (c .«min_observations») +0 +0 noCounts
-  unfolding refusalOf
+  unfolding refusalAnswer
   carries-3 = carries 3 (λ z. omega arith)
 
   -- 8: nothing but the counts of the search
-  pub carries-8 : answer .number ≡ 8 → answer ≡ refusedWith 8 0 0 +0 +0 counts
-  unfolding refusalOf
+  pub carries-8 : answer .number ≡ 8 → answer ≡ refusedAfter 8 counts
+  unfolding refusalAnswer
   carries-8 = carries 8 (λ z. omega arith)
 
   -- 9: rmse_vol as worked out, which may be a NaN, and the largest that is accepted
   pub carries-9 : answer .number ≡ 9 → answer ≡ refusedWith 9 0 0 rmse (c .«max_rmse_vol») counts
-  unfolding refusalOf
+  unfolding refusalAnswer
   carries-9 = carries 9 (λ z. omega arith)
 
   -- an accepted fit has a finite rmse_vol of at most max_rmse_vol: a NaN is never accepted

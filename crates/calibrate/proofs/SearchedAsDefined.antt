@@ -8,7 +8,6 @@ use lib.Dec.{eqb}
 use lib.ListN.{length}
 use lib.Ieee.{Float}
 use borrow.Author.Tests.{eq-eqb, le-leb}
-use Rattle.laws.specs.Floats.{+0}
 use Rattle.laws.proofs.Choices.{cond-ind, cond-test, false-true}
 use Rattle.slice.specs.declared.SviSlice.{SviSlice}
 use Rattle.slice.specs.Slice.{numberOf}
@@ -26,7 +25,7 @@ use Rattle.judge.specs.declared.Sums.{Sums}
 use Rattle.entry.specs.Sized.{Sized}
 use Rattle.entry.specs.Entry.{rangeOf, entryNumber}
 use Rattle.records.specs.Answer.{refusedWith}
-use Rattle.calibrate.specs.End.{acceptedOf, endOf}
+use Rattle.calibrate.specs.End.{refusedAfter, acceptedOf, endOf}
 use Rattle.judge.specs.Judge.{sumsOf, paramsHold, rmseOf, rmseHolds}
 use Rattle.calibrate.specs.Fit.{scaledFor, aMaxFor, limitsFor, planFor, searchFor, activeFrom, sliceFrom, fitSearch, bestEnd, searchEnd, decidedOf, cappedAs, fitOf}
 use Rattle.calibrate.specs.Searched.{FromFound, Searched}
@@ -60,9 +59,9 @@ module _ (tau : Float) (c : FitConfig) (ks ws ts : List Float) where
   -- the answers of a fit that passes the entry checks: what holds of each of them holds of its answer
   module _
       (P : FitAnswer → Type 0)
-      (six : s .refused ≡ true → P (refusedWith 6 0 0 +0 +0 (s .counts)))
-      (seven : s .refused ≡ false → P (refusedWith 7 0 0 +0 +0 (s .counts)))
-      (eight : s .refused ≡ false → P (refusedWith 8 0 0 +0 +0 (s .counts)))
+      (six : s .refused ≡ true → P (refusedAfter 6 (s .counts)))
+      (seven : s .refused ≡ false → P (refusedAfter 7 (s .counts)))
+      (eight : s .refused ≡ false → P (refusedAfter 8 (s .counts)))
       (nine : s .refused ≡ false → P (refusedWith 9 0 0 rmse (c .«max_rmse_vol») (s .counts)))
       (none : s .refused ≡ false → s .found .«on_edge» ≡ false → P done) where
     -- of a, with its capped positions where it is accepted

@@ -1,4 +1,5 @@
 -- The end of the fit, from the best cell of the search to the answer. Every operation is rounded once, in the order written. Definitions only.
+-- docs/METHOD.md, 'The end'.
 use mathlib.Core.Bool.{Bool, false, _||_, cond}
 use mathlib.Core.List.{List}
 use Prim.Native.Nat.{ℕ}
@@ -66,6 +67,10 @@ sliceOf tau range active x m sigma «a_min» «a_max» =
 
 -- ---- the answer, from the best cell and where it stands
 
+-- a refusal after the search that carries its counts, and else zeros
+abbrev pub refusedAfter : ℕ → Counts → FitAnswer
+refusedAfter number counts = refusedWith number 0 0 +0 +0 counts
+
 unfoldable pub acceptedOf : FitConfig → Counts → Float → List Bool → SviSlice → Float → Float → FitAnswer
 acceptedOf c counts objective active s params rmse =
     record {
@@ -89,7 +94,7 @@ unfoldable pub endOf : FitConfig → Counts → Float → Float → List Bool �
 endOf c counts «a_max» objective active s ks ws ts =
     let t = sumsOf s ks ws ts in
     let rmse = rmseOf t (length ks) in
-    unless (eqb (numberOf s) 0) (refusedWith 8 0 0 +0 +0 counts)
-    (unless (paramsHold c «a_max» objective t) (refusedWith 8 0 0 +0 +0 counts)
+    unless (eqb (numberOf s) 0) (refusedAfter 8 counts)
+    (unless (paramsHold c «a_max» objective t) (refusedAfter 8 counts)
     (unless (rmseHolds c rmse) (refusedWith 9 0 0 rmse (c .«max_rmse_vol») counts)
     (acceptedOf c counts objective active s (t .params) rmse)))

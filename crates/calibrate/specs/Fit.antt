@@ -1,4 +1,5 @@
 -- The fit: what `fit_slice` answers, and what it leaves in the two lent buffers. Definitions only.
+-- docs/METHOD.md, 'The search over m and ln sigma', 'The end'.
 use mathlib.Core.Path.{_≡_}
 use mathlib.Core.Bool.{Bool, cond}
 use mathlib.Core.List.{List, [], _∷_, _++_}
@@ -7,7 +8,7 @@ use lib.Dec.{eqb}
 use lib.ListN.{length}
 use lib.Ieee.{Float}
 use Rattle.laws.specs.Loop.{for}
-use Rattle.laws.specs.Choice.{unless}
+use Rattle.laws.specs.Choice.{unless, refusing}
 use Rattle.laws.specs.Floats.{_+f_, _-f_, _*f_, +0, half, at}
 use Rattle.laws.specs.Room.{written}
 use Rattle.exponent.specs.Ln.{lnOf}
@@ -27,7 +28,7 @@ use Rattle.records.specs.declared.FitConfig.{FitConfig}
 use Rattle.records.specs.declared.FitAnswer.{FitAnswer}
 use Rattle.entry.specs.Entry.{rangeOf, entryNumber}
 use Rattle.records.specs.Answer.{noCounts, refusedWith}
-use Rattle.calibrate.specs.End.{marksAt, sliceOf, endOf}
+use Rattle.calibrate.specs.End.{refusedAfter, marksAt, sliceOf, endOf}
 use Rattle.judge.specs.Judge.{residualAt, highestOf}
 
 -- ---- the search: m from k_min - R to k_max + R, ln sigma from ln (sigma_lo R) to ln (sigma_hi R), R = k_max - k_min
@@ -100,8 +101,8 @@ bestEnd tau c range «a_max» best counts ks ws ts =
 -- 6, no qualifying face in some pass; 7, the best point on any edge of its pass's grid
 unfoldable pub searchEnd : Float → FitConfig → KRange → Float → Search → List Float → List Float → List Float → FitAnswer
 searchEnd tau c range «a_max» s ks ws ts =
-    cond (s .refused) (refusedWith 6 0 0 +0 +0 (s .counts))
-    (cond (s .found .«on_edge») (refusedWith 7 0 0 +0 +0 (s .counts))
+    cond (s .refused) (refusedAfter 6 (s .counts))
+    (cond (s .found .«on_edge») (refusedAfter 7 (s .counts))
     (bestEnd tau c range «a_max» (s .found) (s .counts) ks ws ts))
 
 -- the answer of a fit that passed the entry checks, but for its capped positions
@@ -135,9 +136,8 @@ cappedAs a n =
 -- the answer: of observations (k, w, weight) in ks, ws, ts, with room for so many residual numbers and capped positions
 unfoldable pub fitOf : Float → FitConfig → List Float → List Float → List Float → ℕ → ℕ → FitAnswer
 fitOf tau c ks ws ts room slots =
-    let number = entryNumber tau c ks ws ts room slots in
     let decided = decidedOf tau c ks ws (scaledFor c ts) in
-    unless (eqb number 0) (refusedEarly number (length ks) (c .«min_observations»))
+    refusing (entryNumber tau c ks ws ts room slots) (λ n. refusedEarly n (length ks) (c .«min_observations»))
     (unless (eqb (decided .number) 0) decided
     (cappedAs decided (length (cappedOf (c .«max_weight_ratio») ts))))
 

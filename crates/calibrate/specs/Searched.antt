@@ -1,4 +1,5 @@
 -- Demand 3: what is promised of every fit that passes the entry checks, whatever its answer (accepted, or 6 to 9). Definitions only.
+-- docs/METHOD.md, 'What is promised of the minimum, and what is not'.
 use mathlib.Core.Path.{_≡_}
 use mathlib.Core.Bool.{true, false}
 use mathlib.Core.List.{List}

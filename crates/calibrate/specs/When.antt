@@ -1,5 +1,6 @@
 -- When a fit is refused: the condition of each of document 01's numbers, and the order in which they are asked. Definitions only.
 -- The conditions of the entry checks (12, 11, 10, 1 to 5) stand in entry/specs/When.antt, those of a slice (8, 9) in judge/specs/When.antt: they speak of no search.
+-- docs/METHOD.md, 'The search over m and ln sigma', 'The end'.
 use mathlib.Core.Path.{_≡_}
 use mathlib.Core.Bool.{true, false, _&&_, cond}
 use mathlib.Core.List.{List}
@@ -7,6 +8,7 @@ use Prim.Native.Nat.{ℕ, _+_, _-_, _<_}
 use lib.Dec.{eqb, leb}
 use lib.ListN.{length}
 use lib.Ieee.{Float}
+use Rattle.laws.specs.Some.{Some}
 use Rattle.laws.specs.Floats.{+0}
 use Rattle.slice.specs.declared.SviSlice.{SviSlice}
 use Rattle.search.specs.declared.Plan.{Plan}
@@ -14,7 +16,7 @@ use Rattle.search.specs.Search.{CellFn, cellAt, afterPasses}
 use Rattle.search.specs.Run.{fitCell}
 use Rattle.records.specs.declared.FitConfig.{FitConfig}
 use Rattle.records.specs.declared.FitAnswer.{FitAnswer}
-use Rattle.entry.specs.When.{Some, EntryFails}
+use Rattle.entry.specs.When.{EntryFails}
 use Rattle.judge.specs.When.{rmseAt, OutOfDomain, RmseAboveMax}
 use Rattle.entry.specs.Entry.{rangeOf}
 use Rattle.records.specs.Answer.{noCounts, refusedWith}
@@ -57,8 +59,8 @@ module _ (tau : Float) (c : FitConfig) (ks ws ts : List Float) (room slots : ℕ
   NoneBefore n = (m : ℕ) → turn m < turn n → ¬ Fails m
 
   -- what refusal n hands back: zeros, but for 3 the observations given and wanted, for 9 rmse_vol as worked out and the largest accepted, for 6 to 9 the counts of the search
-  unfoldable pub refusalOf : ℕ → FitAnswer
-  refusalOf n =
+  unfoldable pub refusalAnswer : ℕ → FitAnswer
+  refusalAnswer n =
       refusedWith n (cond (eqb n 3) (length ks) 0) (cond (eqb n 3) (c .«min_observations») 0)
       (cond (eqb n 9) (rmseAt tried ks ws (scaledFor c ts)) +0) (cond (eqb n 9) (c .«max_rmse_vol») +0)
       (cond (leb 6 n && leb n 9) (searchFor c ks ws ts .counts) noCounts)

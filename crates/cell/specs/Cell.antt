@@ -1,5 +1,6 @@
 -- One cell of the search: the weighted least squares over the polytope at (m, sigma), by trying its faces. `inner` of calibrate.rs.
 -- Every operation is rounded once, in the order written. Definitions only.
+-- docs/METHOD.md, 'One cell: every face of the polytope'.
 use mathlib.Core.Bool.{Bool, true, false, not, _&&_, _||_, cond}
 use mathlib.Core.List.{List, [], _∷_}
 use Prim.Native.Nat.{ℕ, _+_, _*_}

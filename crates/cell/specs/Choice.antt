@@ -1,4 +1,5 @@
 -- What a cell chooses from: its faces as they are tried, and when it is the best of them. Definitions only.
+-- docs/METHOD.md, 'One cell: every face of the polytope'.
 use mathlib.Core.Path.{_≡_}
 use mathlib.Core.List.{List}
 use Prim.Native.Nat.{ℕ, _<_}

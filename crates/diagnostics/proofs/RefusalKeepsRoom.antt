@@ -14,14 +14,14 @@ use Rattle.surface.specs.declared.types.ShortExpiryPolicy.{ShortExpiryPolicy}
 use Rattle.diagnostics.specs.declared.report.DiagnosticsConfig.{DiagnosticsConfig}
 use Rattle.diagnostics.specs.declared.report.Diagnosed.the-variants.{Refused}
 use Rattle.diagnostics.specs.Walk.{State}
-use Rattle.diagnostics.specs.Diagnostics.{outcome, reported, diagnoseNumber, diagnoseOf, diagnosedNumber}
+use Rattle.diagnostics.specs.Diagnostics.{withRoom, reported, diagnoseNumber, diagnoseOf, diagnosedNumber}
 
-kept : (b : Bool) (m n : ℕ) (room : List Float) (st : State) → unless b (outcome (Refused m) room) (reported st) .answer ≡ Refused n → unless b (outcome (Refused m) room) (reported st) .room ≡ room
+kept : (b : Bool) (m n : ℕ) (room : List Float) (st : State) → unless b (withRoom (Refused m) room) (reported st) .answer ≡ Refused n → unless b (withRoom (Refused m) room) (reported st) .room ≡ room
 unfolding reported
 kept true m n room st e = let z : _≡_ {A = ℕ} 0 1 = cc in absurd (omega arith)
 kept false m n room st e = refl
 
-numbered : (b : Bool) (m : ℕ) (room : List Float) (st : State) → eqb m 0 ≡ b → diagnosedNumber (unless b (outcome (Refused m) room) (reported st) .answer) ≡ m
+numbered : (b : Bool) (m : ℕ) (room : List Float) (st : State) → eqb m 0 ≡ b → diagnosedNumber (unless b (withRoom (Refused m) room) (reported st) .answer) ≡ m
 unfolding reported
 numbered true m room st e = sym (eqb-true m 0 e)
 numbered false m room st e = refl

@@ -18,7 +18,7 @@ use Rattle.laws.specs.Loop.{for}
 use Rattle.laws.proofs.Loops.{again, ended}
 use Rattle.diagnostics.specs.declared.report.DiagnosticsConfig.{DiagnosticsConfig}
 use Rattle.diagnostics.specs.Walk.{State, walkIn, visitOf, PointFn, rowTurn, walkTurn, freshOf, tausAt, walkStart, walkOf}
-use Rattle.diagnostics.specs.Diagnostics.{Outcome, diagnoseNumber, reportOf, reported, outcome}
+use Rattle.diagnostics.specs.Diagnostics.{WithRoom, diagnoseNumber, reportOf, reported, withRoom}
 use Rattle.diagnostics.specs.declared.report.SurfaceDiagnostics.{SurfaceDiagnostics}
 use Rattle.diagnostics.specs.declared.report.Diagnosed.{Diagnosed}
 use Rattle.diagnostics.specs.declared.report.Diagnosed.the-variants.{Done}
@@ -142,13 +142,13 @@ pub room-enough : (run : Run) (ks axis : List Float) (tol : DiagnosticsConfig) (
 unfolding diagnoseNumber
 room-enough run ks axis tol room {r} e z = ltb-false room (3 * (length ks * length axis)) (no-refusal (ltb room (3 * (length ks * length axis))) _ (sym e ∙ z))
 
-pub report-is : {w : Walk} {room : List Float} {rep : SurfaceDiagnostics} {st : State} → rep ≡ reportOf w → walkIn w room ≡ st → outcome (Done rep) room ≡ reported st
+pub report-is : {w : Walk} {room : List Float} {rep : SurfaceDiagnostics} {st : State} → rep ≡ reportOf w → walkIn w room ≡ st → withRoom (Done rep) room ≡ reported st
 unfolding reported
-report-is {w} {room} e h = ap (λ (r : SurfaceDiagnostics). outcome (Done r) room) e ∙ ap reported h
+report-is {w} {room} e h = ap (λ (r : SurfaceDiagnostics). withRoom (Done r) room) e ∙ ap reported h
 
 -- an outcome's two halves
-pub halves : (o : Outcome) {d : Diagnosed} {zs : List Float} → outcome d zs ≡ o → (d ≡ o .answer) × (zs ≡ o .room)
-halves o e = (ap (λ (x : Outcome). x .answer) e, ap (λ (x : Outcome). x .room) e)
+pub halves : (o : WithRoom) {d : Diagnosed} {zs : List Float} → withRoom d zs ≡ o → (d ≡ o .answer) × (zs ≡ o .room)
+halves o e = (ap (λ (x : WithRoom). x .answer) e, ap (λ (x : WithRoom). x .room) e)
 
 -- a walk after a good point, tally by tally
 pub good-by : {b b′ s s′ g g′ : Check} (n : ℕ) (p : Previous) → b ≡ b′ → s ≡ s′ → g ≡ g′

@@ -16,13 +16,13 @@ use Rattle.laws.specs.Loop.{turns, for}
 use Rattle.laws.proofs.Choices.{passed-number}
 use Rattle.surface.specs.declared.types.Run.{Run}
 use Rattle.surface.specs.declared.types.ShortExpiryPolicy.{ShortExpiryPolicy}
-use Rattle.surface.specs.Surface.{entryNumber}
+use Rattle.surface.specs.Surface.{surfaceGridNumber}
 use Rattle.diagnostics.specs.declared.report.DiagnosticsConfig.{DiagnosticsConfig}
 use Rattle.diagnostics.specs.declared.report.SurfaceDiagnostics.{SurfaceDiagnostics}
 use Rattle.diagnostics.specs.declared.report.Diagnosed.the-variants.{Done, Refused}
 use Rattle.diagnostics.specs.Walk.{State, walkIn, visitOf, freshOf, walkStart, tausAt, walkOf, PointFn}
 use Rattle.diagnostics.specs.OnGrid.{overGrid, seenBy}
-use Rattle.diagnostics.specs.Diagnostics.{Outcome, outcome, reportOf, reported, toleranceNumber, diagnoseNumber, diagnoseOf}
+use Rattle.diagnostics.specs.Diagnostics.{WithRoom, withRoom, reportOf, reported, toleranceNumber, diagnoseNumber, diagnoseOf}
 use Rattle.diagnostics.proofs.Standing.{room-enough}
 
 -- ---- a loop over the places of an axis is one turn for each of its values
@@ -96,8 +96,8 @@ module _ (run : Run) (policy : ShortExpiryPolicy) (ks axis : List Float) (tol : 
   abbrev walked : State
   walked = walkOf (seenBy run policy) tol ks axis room
 
-  abbrev out : Bool → Outcome
-  out b = unless b (outcome (Refused (diagnoseNumber run ks axis tol (length room))) room) (reported walked)
+  abbrev out : Bool → WithRoom
+  out b = unless b (withRoom (Refused (diagnoseNumber run ks axis tol (length room))) room) (reported walked)
 
   pub record Accepted : Type 0 where
     pub few : length ks * length axis ≤ 4096
@@ -106,9 +106,9 @@ module _ (run : Run) (policy : ShortExpiryPolicy) (ks axis : List Float) (tol : 
     pub after : diagnoseOf run policy ks axis tol room .room ≡ walked .room
 
   passed : diagnoseNumber run ks axis tol (length room) ≡ 0 → (length ks ≤ 64) × (length axis ≤ 64)
-  unfolding diagnoseNumber entryNumber
+  unfolding diagnoseNumber surfaceGridNumber
   passed z =
-      let e : entryNumber run ks axis ≡ 0 = passed-number (entryNumber run ks axis) (toleranceNumber tol) (no-12 (ltb (length room) (3 * (length ks * length axis))) _ z) .0 in
+      let e : surfaceGridNumber run ks axis ≡ 0 = passed-number (surfaceGridNumber run ks axis) (toleranceNumber tol) (no-12 (ltb (length room) (3 * (length ks * length axis))) _ z) .0 in
       let n = neither (ltb 64 (length ks)) (ltb 64 (length axis)) _ e in
       (ltb-false 64 (length ks) (n .0), ltb-false 64 (length axis) (n .1))
 

@@ -1,16 +1,17 @@
 -- The diagnostics of a surface (diagnostics.rs: `DiagnosticsConfig`, `SurfaceDiagnostics`, `diagnose`): the tests in order, then the walk. Definitions only.
+-- docs/METHOD.md, 'Surfaces and diagnostics'.
 use mathlib.Core.Bool.{Bool, _&&_, cond}
 use mathlib.Core.List.{List}
 use Prim.Native.Nat.{ℕ, _*_}
 use lib.Dec.{eqb, ltb}
 use lib.ListN.{length}
 use lib.Ieee.{Float, le}
-use Rattle.laws.specs.Choice.{unless}
+use Rattle.laws.specs.Choice.{unless, refusing}
 use Rattle.laws.specs.Floats.{f64, +0, finite}
 use Rattle.surface.specs.declared.types.Run.{Run}
 use Rattle.surface.specs.declared.types.ShortExpiryPolicy.{ShortExpiryPolicy}
 use Rattle.surface.specs.Runs.{tausOf}
-use Rattle.surface.specs.Surface.{tolsOf, entryNumber}
+use Rattle.surface.specs.Surface.{tolsOf, surfaceGridNumber}
 use Rattle.diagnostics.specs.declared.grid.Walk.{Walk}
 use Rattle.diagnostics.specs.declared.report.DiagnosticsConfig.{DiagnosticsConfig}
 use Rattle.diagnostics.specs.declared.report.SurfaceDiagnostics.{SurfaceDiagnostics}
@@ -33,9 +34,9 @@ toleranceNumber t = unless (tolerable (t .«butterfly_tolerance») && tolerable 
 
 -- 12, room for three numbers a grid point; 11 to 41, the surface and the axes; 42
 unfoldable pub diagnoseNumber : Run → List Float → List Float → DiagnosticsConfig → ℕ → ℕ
-diagnoseNumber run ks axis tol room =
-    cond (ltb room (3 * (length ks * length axis))) 12
-    (unless (eqb (entryNumber run ks axis) 0) (entryNumber run ks axis)
+diagnoseNumber run ks taus tol room =
+    cond (ltb room (3 * (length ks * length taus))) 12
+    (refusing (surfaceGridNumber run ks taus) (λ n. n)
     (toleranceNumber tol))
 
 unfoldable pub reportOf : Walk → SurfaceDiagnostics
@@ -46,21 +47,21 @@ unfoldable pub reportClean : SurfaceDiagnostics → Bool
 reportClean d = ((isClean (d .butterfly) && isClean (d .«calendar_slope»)) && isClean (d .«calendar_gap»)) && eqb (d .«evaluation_failures») 0
 
 -- an answer, and what the lent room holds beside it
-pub record Outcome : Type 0 where
+pub record WithRoom : Type 0 where
   pub answer : Diagnosed
   pub room : List Float
 
-abbrev pub outcome : Diagnosed → List Float → Outcome
-outcome d room = record { answer = d; room = room }
+abbrev pub withRoom : Diagnosed → List Float → WithRoom
+withRoom d room = record { answer = d; room = room }
 
-unfoldable pub reported : State → Outcome
-reported st = outcome (Done (reportOf (st .walk))) (st .room)
+unfoldable pub reported : State → WithRoom
+reported st = withRoom (Done (reportOf (st .walk))) (st .room)
 
 -- `diagnose`: a refusal leaves the room as it was
-unfoldable pub diagnoseOf : Run → ShortExpiryPolicy → List Float → List Float → DiagnosticsConfig → List Float → Outcome
-diagnoseOf run policy ks axis tol room =
-    unless (eqb (diagnoseNumber run ks axis tol (length room)) 0) (outcome (Refused (diagnoseNumber run ks axis tol (length room))) room)
-    (reported (walkOf (seenOn (run .recs) (tausOf (run .recs)) (tolsOf run) (run .count) policy) tol ks axis room))
+unfoldable pub diagnoseOf : Run → ShortExpiryPolicy → List Float → List Float → DiagnosticsConfig → List Float → WithRoom
+diagnoseOf run policy ks taus tol room =
+    refusing (diagnoseNumber run ks taus tol (length room)) (λ n. withRoom (Refused n) room)
+    (reported (walkOf (seenOn (run .recs) (tausOf (run .recs)) (tolsOf run) (run .count) policy) tol ks taus room))
 
 -- the number of an answer: 0 for a report
 abbrev pub diagnosedNumber : Diagnosed → ℕ

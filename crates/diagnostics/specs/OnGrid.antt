@@ -1,4 +1,5 @@
 -- What a grid yields, point by point in walking order: k outside, tau inside. Definitions only.
+-- docs/METHOD.md, 'Surfaces and diagnostics'.
 use mathlib.Core.List.{List, [], _∷_, _++_, flatMap}
 use lib.Ieee.{Float}
 use Rattle.laws.specs.Floats.{_-f_, num}

@@ -1,4 +1,5 @@
 -- Points recorded one after the other, and what is to be said of their tally. Definitions only.
+-- docs/METHOD.md, 'Surfaces and diagnostics'.
 use mathlib.Core.Path.{_≡_}
 use mathlib.Core.Bool.{true, false, cond}
 use mathlib.Core.List.{List, [], _∷_}

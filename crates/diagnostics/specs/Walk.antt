@@ -1,4 +1,5 @@
 -- The walk over a grid (diagnostics.rs: `butterfly_g`, the loops of `diagnose`). Every operation is rounded once, in the order written. Definitions only.
+-- docs/METHOD.md, 'Surfaces and diagnostics'.
 use mathlib.Core.Bool.{true, false, cond}
 use mathlib.Core.List.{List}
 use Prim.Native.Nat.{ℕ, _+_, _*_}
@@ -85,21 +86,21 @@ unfoldable pub freshOf : Walk → Walk
 freshOf s = record { butterfly = s .butterfly; slope = s .slope; gap = s .gap; failed = s .failed; previous = noPrevious }
 
 abbrev pub rowTurn : PointFn → DiagnosticsConfig → List Float → Float → ℕ → State → State
-rowTurn f tol axis k j st = visitOf st (f k (at axis j)) k (at axis j) tol
+rowTurn f tol taus k j st = visitOf st (f k (at taus j)) k (at taus j) tol
 
 -- one k, over the tau axis
 unfoldable pub tausAt : PointFn → DiagnosticsConfig → List Float → Float → State → State
-tausAt f tol axis k st = for 0 (length axis) (rowTurn f tol axis k) (walkIn (freshOf (st .walk)) (st .room))
+tausAt f tol taus k st = for 0 (length taus) (rowTurn f tol taus k) (walkIn (freshOf (st .walk)) (st .room))
 
 unfoldable pub walkStart : Walk
 walkStart = record { butterfly = noCheck; slope = noCheck; gap = noCheck; failed = 0; previous = noPrevious }
 
 abbrev pub walkTurn : PointFn → DiagnosticsConfig → List Float → List Float → ℕ → State → State
-walkTurn f tol ks axis i st = tausAt f tol axis (at ks i) st
+walkTurn f tol ks taus i st = tausAt f tol taus (at ks i) st
 
 -- every k, one after the other
 unfoldable pub walkOf : PointFn → DiagnosticsConfig → List Float → List Float → List Float → State
-walkOf f tol ks axis room = for 0 (length ks) (walkTurn f tol ks axis) (walkIn walkStart room)
+walkOf f tol ks taus room = for 0 (length ks) (walkTurn f tol ks taus) (walkIn walkStart room)
 
 -- what is seen at a point of tested slices
 unfoldable pub seenOn : List SviSlice → List Float → List Float → ℕ → ShortExpiryPolicy → PointFn

@@ -1,67 +1,37 @@
 -- The test of each entry check and its condition: where the test fails the condition holds, and where it passes the condition does not. Assumes nothing.
-use mathlib.Core.Path.{_≡_, refl, sym, subst, _∙_}
+use mathlib.Core.Path.{_≡_, refl, sym, subst}
 use mathlib.Core.Bool.{Bool, true, false, not, _&&_}
 use mathlib.Core.List.{List}
-use Prim.Native.Nat.{ℕ, _+_, _*_, _<_}
+use Prim.Native.Nat.{ℕ, _*_, _<_}
 use native.Mathlib.Omega.{arith}
-use native.Mathlib.Nat.{not-suc-le-zero}
 use lib.Dec.{T, eqb, leb}
 use lib.ListN.{length}
 use lib.Ieee.{Float, lt, le, ofBits}
 use lib.Ieee.Bits.{is-true}
 use borrow.Author.Tests.{eqb-false, leb-true, leb-false}
-use Rattle.laws.specs.Loop.{for}
+use Rattle.laws.specs.Some.{Some}
 use Rattle.laws.specs.Floats.{+0, at, finite, positive}
-use Rattle.laws.proofs.Choices.{both, false-true}
+use Rattle.laws.proofs.Choices.{both, split, off, false-true}
 use Rattle.laws.proofs.Floats.{finite-no-nan}
-use Rattle.laws.proofs.Loops.{for-ind, below-next}
+use Rattle.laws.proofs.Somes.{some-fails, none-fails}
 use Rattle.laws.proofs.Order.{lt-or, lt-le-trans, lt-not-self}
 use Rattle.weights.specs.Weights.{scaledOf, allGood}
 use Rattle.weights.proofs.Places.{scaled-length}
 use Rattle.records.specs.declared.FitConfig.{FitConfig}
 use Rattle.records.specs.Settings.{settingsHold, sizesHold}
-use Rattle.entry.specs.Entry.{lengthsHold, allPass}
+use Rattle.entry.specs.Entry.{lengthsHold, columnsPass}
 use Rattle.records.specs.Observation.{passes}
 use Rattle.entry.proofs.Known.{lengths-are}
 use Rattle.entry.specs.When as when
-use Rattle.entry.specs.When.{Some, UnequalOrShort, OverSize, BadObservation, BadSettings}
+use Rattle.entry.specs.When.{UnequalOrShort, OverSize, BadObservation, BadSettings}
 
 -- ---- bools
-
--- a conjunction that fails has a part that fails
-pub split : {R : Type 0} (a b : Bool) → (a && b) ≡ false → (a ≡ false → R) → (b ≡ false → R) → R
-split true b h x y = y h
-split false b h x y = x refl
-
-pub off : {b : Bool} → b ≡ false → b ≡ true → ⊥
-off e h = false-true (sym e ∙ h)
 
 pub is-T : {b : Bool} → b ≡ true → T b
 is-T e = subst T (sym e) tt
 
 not-T : {b : Bool} → b ≡ false → T (not b)
 not-T e = subst (λ (b : Bool). T (not b)) (sym e) tt
-
--- ---- a test made at each number below n
-
-module _ (p : ℕ → Bool) (n : ℕ) where
-  abbrev all : Bool
-  all = for 0 n (λ i b. b && p i) true
-
-  pub some-fails : all ≡ false → Some n (λ i. p i ≡ false)
-  some-fails =
-      for-ind (λ i b. b && p i) (λ (k : ℕ) (b : Bool). b ≡ false → Some k (λ i. p i ≡ false)) n
-      (λ j b l h e. split b (p j) e (λ x. let s = h x in (s .0, omega (arith, s .1), s .2)) (λ x. (j, omega arith, x)))
-      true (λ e. false-true (sym e))
-
-  pub none-fails : all ≡ true → (i : ℕ) → i < n → p i ≡ true
-  none-fails =
-      for-ind (λ i b. b && p i) (λ (k : ℕ) (b : Bool). b ≡ true → (i : ℕ) → i < k → p i ≡ true) n
-      (λ j b l h e. let g = both b (p j) e in below-next (λ (i : ℕ). p i ≡ true) j (h (g .0)) (g .1))
-      true (λ e i l. absurd (not-suc-le-zero l))
-
-  pub some-refutes : all ≡ true → Some n (λ i. p i ≡ false) → ⊥
-  some-refutes h s = off (s .2) (none-fails h (s .0) (s .1))
 
 -- ---- 12
 
@@ -154,17 +124,17 @@ module _ (ks ws ts : List Float) where
   abbrev Bad : Type 0
   Bad = Some (length ks) (λ i. BadObservation (at ks i) (at ws i) (at ts i))
 
-  pub observations-fail : allPass ks ws ts ≡ false → Bad
-  unfolding allPass
+  pub observations-fail : columnsPass ks ws ts ≡ false → Bad
+  unfolding columnsPass
   observations-fail h =
       let s = some-fails (λ i. passes (at ks i) (at ws i) (at ts i)) (length ks) h in
       (s .0, s .1, passes-fail (at ks (s .0)) (at ws (s .0)) (at ts (s .0)) (s .2))
 
-  pub observations-pass : allPass ks ws ts ≡ true → (i : ℕ) → i < length ks → passes (at ks i) (at ws i) (at ts i) ≡ true
-  unfolding allPass
+  pub observations-pass : columnsPass ks ws ts ≡ true → (i : ℕ) → i < length ks → passes (at ks i) (at ws i) (at ts i) ≡ true
+  unfolding columnsPass
   observations-pass = none-fails (λ i. passes (at ks i) (at ws i) (at ts i)) (length ks)
 
-  pub observations-refute : allPass ks ws ts ≡ true → Bad → ⊥
+  pub observations-refute : columnsPass ks ws ts ≡ true → Bad → ⊥
   observations-refute h s = passes-refute (at ks (s .0)) (at ws (s .0)) (at ts (s .0)) (observations-pass h (s .0) (s .1)) (s .2)
 
 -- ---- 1

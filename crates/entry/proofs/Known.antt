@@ -15,7 +15,7 @@ use Rattle.weights.specs.Weights.{capOf, scaledOf, allGood, weighed, weightsOf}
 use Rattle.weights.proofs.Places.{weights-are, take-weighed, scaled-length}
 use Rattle.records.specs.declared.FitConfig.{FitConfig}
 use Rattle.records.specs.Settings.{settingsHold, sizesHold}
-use Rattle.entry.specs.Entry.{lengthsHold, allPass, checksNumber, entryNumber}
+use Rattle.entry.specs.Entry.{lengthsHold, columnsPass, checksNumber, entryNumber}
 use Rattle.entry.specs.Sized.{Sized}
 
 -- ---- each check, from its test
@@ -71,7 +71,7 @@ unfolding checksNumber
 passed tau c ks ws ts room slots h =
     let p = passed-one (lengthsHold ks ws ts room slots) 12 _ (λ e. omega arith) h in
     let q = passed-one (sizesHold (length ks) c) 11 _ (λ e. omega arith) (p .1) in
-    let r = passed-one (allPass ks ws ts) 10 _ (λ e. omega arith) (q .1) in
+    let r = passed-one (columnsPass ks ws ts) 10 _ (λ e. omega arith) (q .1) in
     let s = passed-one (settingsHold c) 1 _ (λ e. omega arith) (r .1) in
     let t = passed-one (positive tau) 2 _ (λ e. omega arith) (s .1) in
     let u = passed-one (leb (c .«min_observations») (length ks)) 3 _ (λ e. omega arith) (t .1) in

@@ -14,18 +14,18 @@ use Rattle.weights.specs.Weights.{sortOf, scaledOf}
 use Rattle.weights.proofs.Sorted.{Number, each-at, Rising, rising-sort}
 use Rattle.weights.proofs.Shares.{Shares, shares}
 use Rattle.records.specs.declared.FitConfig.{FitConfig}
-use Rattle.entry.specs.Entry.{lengthsHold, allPass, checksNumber, entryNumber}
+use Rattle.entry.specs.Entry.{lengthsHold, columnsPass, checksNumber, entryNumber}
 use Rattle.records.specs.Settings.{sizesHold}
 use Rattle.entry.proofs.Known.{passed, entered}
 use Rattle.entry.proofs.Conditions.{observations-pass}
 
 module _ (tau : Float) (c : FitConfig) (ks ws ts : List Float) (room slots : ℕ) (e : entryNumber tau c ks ws ts room slots ≡ 0) where
-  pub all-pass : checksNumber tau c ks ws ts room slots ≡ 0 → allPass ks ws ts ≡ true
+  pub all-pass : checksNumber tau c ks ws ts room slots ≡ 0 → columnsPass ks ws ts ≡ true
   unfolding checksNumber
   all-pass h =
       let p = passed-one (lengthsHold ks ws ts room slots) 12 _ (λ e. omega arith) h in
       let q = passed-one (sizesHold (length ks) c) 11 _ (λ e. omega arith) (p .1) in
-      passed-one (allPass ks ws ts) 10 _ (λ e. omega arith) (q .1) .0
+      passed-one (columnsPass ks ws ts) 10 _ (λ e. omega arith) (q .1) .0
 
   weight-number : (i : ℕ) → i < length ts → Number (at ts i)
   weight-number i l =

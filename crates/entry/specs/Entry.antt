@@ -6,7 +6,7 @@ use lib.Dec.{eqb, leb}
 use lib.ListN.{length}
 use lib.Ieee.{Float, neg}
 use Rattle.laws.specs.Loop.{for}
-use Rattle.laws.specs.Choice.{unless}
+use Rattle.laws.specs.Choice.{unless, refusing}
 use Rattle.laws.specs.Floats.{_-f_, _/f_, +0, one, at, positive, minOf, maxOf}
 use Rattle.slice.specs.declared.KRange.{KRange}
 use Rattle.weights.specs.Weights.{scaledOf, allGood}
@@ -18,8 +18,8 @@ use Rattle.records.specs.Observation.{passes}
 unfoldable pub lengthsHold : List Float → List Float → List Float → ℕ → ℕ → Bool
 lengthsHold ks ws ts room slots = eqb (length ks) (length ws) && eqb (length ks) (length ts) && leb (length ks * 4) room && leb (length ks) slots
 
-unfoldable pub allPass : List Float → List Float → List Float → Bool
-allPass ks ws ts = for 0 (length ks) (λ i b. b && passes (at ks i) (at ws i) (at ts i)) true
+unfoldable pub columnsPass : List Float → List Float → List Float → Bool
+columnsPass ks ws ts = for 0 (length ks) (λ i b. b && passes (at ks i) (at ws i) (at ts i)) true
 
 -- k_min and k_max, from +infinity and -infinity
 unfoldable pub rangeOf : List Float → KRange
@@ -34,7 +34,7 @@ unfoldable pub checksNumber : Float → FitConfig → List Float → List Float 
 checksNumber tau c ks ws ts room slots =
     unless (lengthsHold ks ws ts room slots) 12
     (unless (sizesHold (length ks) c) 11
-    (unless (allPass ks ws ts) 10
+    (unless (columnsPass ks ws ts) 10
     (unless (settingsHold c) 1
     (unless (positive tau) 2
     (unless (leb (c .«min_observations») (length ks)) 3
@@ -44,7 +44,6 @@ checksNumber tau c ks ws ts room slots =
 -- and last the scaled weights
 unfoldable pub entryNumber : Float → FitConfig → List Float → List Float → List Float → ℕ → ℕ → ℕ
 entryNumber tau c ks ws ts room slots =
-    let first = checksNumber tau c ks ws ts room slots in
-    unless (eqb first 0) first
+    refusing (checksNumber tau c ks ws ts room slots) (λ n. n)
     (unless (allGood (scaledOf (c .«max_weight_ratio») ts)) 5
     0)

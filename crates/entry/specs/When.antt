@@ -5,14 +5,11 @@ use mathlib.Core.List.{List}
 use Prim.Native.Nat.{ℕ, _*_, _<_}
 use lib.ListN.{length}
 use lib.Ieee.{Float, lt}
+use Rattle.laws.specs.Some.{Some}
 use Rattle.laws.specs.Floats.{+0, at, finite, positive}
 use Rattle.weights.specs.Weights.{scaledOf}
 use Rattle.records.specs.declared.FitConfig.{FitConfig}
 use Rattle.entry.specs.Entry.{spanOf}
-
--- P holds of some number below n
-abbrev pub Some : ℕ → (ℕ → Type 0) → Type 0
-Some n P = (i : ℕ) × (i < n) × P i
 
 -- 12: the lengths differ, or the room is short of four residual numbers or of one capped position an observation
 pub data UnequalOrShort (ks ws ts : List Float) (room slots : ℕ) : Type 0 where

@@ -1,7 +1,7 @@
 // The entry checks of the fit that come before the weights, and the range of k. Nothing is fitted here.
 ghost use mathlib.Core.Path.{_≡_};
 ghost use lib.ListN.{length};
-ghost use Rattle.entry.specs.Entry.{lengthsHold, allPass, rangeOf, spanOf, checksNumber};
+ghost use Rattle.entry.specs.Entry.{lengthsHold, columnsPass, rangeOf, spanOf, checksNumber};
 use records::FitConfig;
 use slice::KRange;
 
@@ -14,7 +14,7 @@ fn lengths_hold(k: &[f64], w: &[f64], weight: &[f64], room: usize, slots: usize)
 
 fn all_pass(k: &[f64], w: &[f64], weight: &[f64]) -> bool
     requires { ⌜ (length (now w) ≡ length (now k)) × (length (now weight) ≡ length (now k)) ⌝ }
-    ensures { λ r. ⌜ r ≡ allPass (now (k .entry)) (now (w .entry)) (now (weight .entry)) ⌝ }
+    ensures { λ r. ⌜ r ≡ columnsPass (now (k .entry)) (now (w .entry)) (now (weight .entry)) ⌝ }
 {
     let mut ok = true;
     for i in 0..k.len() {

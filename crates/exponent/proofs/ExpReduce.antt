@@ -12,14 +12,14 @@ use lib.Ieee.Fits.{down-pos}
 use lib.Ieee.Exact.{HasValue}
 use lib.Ieee.Nearest.{div-same, div-mono}
 use Rattle.laws.specs.Floats.{_+f_, _-f_, _*f_, num, half}
-use Rattle.exponent.specs.Steps.{inv-ln2, ln2-hi, ln2-lo, c746}
-use Rattle.exponent.specs.Exp.{edge, quotient, turnsOf, restOf}
+use Rattle.exponent.specs.Steps.{invLn2, ln2Hi, ln2Lo, c746}
+use Rattle.exponent.specs.Exp.{edge, quotientOf, turnsOf, restOf}
 use Rattle.laws.proofs.Near.{Near, near-cancel}
 use Rattle.laws.proofs.Rounded.{Rounds, rounded}
 use Rattle.laws.proofs.Ops.{mul-value, add-value, sub-value-less, num-value, neg-value}
 use Rattle.laws.proofs.Interval.{Iv, iv-round, iv-sub}
 
-inv-value : HasValue inv-ln2 false 3248660424278399 2251799813685248
+inv-value : HasValue invLn2 false 3248660424278399 2251799813685248
 unfolding ofBits
 inv-value = (refl, refl)
 
@@ -27,7 +27,7 @@ half-value : HasValue half false 1 2
 unfolding ofBits
 half-value = (refl, refl)
 
-hi-value : HasValue ln2-hi false 2977044471 4294967296
+hi-value : HasValue ln2Hi false 2977044471 4294967296
 unfolding ofBits
 hi-value = (refl, refl)
 
@@ -119,7 +119,7 @@ least-of x d h = omega arith
 low-part : (n : ℕ) → n ≤ 1100 → n * 3691024475790907 * 1048576 ≤ 1 * (1 * 19342813113834066795298816)
 low-part n h = omega arith
 
-lo-value : HasValue ln2-lo false 3691024475790907 19342813113834066795298816
+lo-value : HasValue ln2Lo false 3691024475790907 19342813113834066795298816
 unfolding ofBits
 lo-value = (refl, refl)
 
@@ -167,10 +167,10 @@ wide : 1048576 * w ≤ U
 wide = lit≤ tt
 
 module _ (m : ℕ) (e : ℤ) (L : m * up e ≤ 746 * down e) (E : 780473815423307 * down e < m * up e * 2251799813685248) where
-  product : Rounds (fin false m e *f inv-ln2) false (m * up e * 3248660424278399) (down e * 2251799813685248) w
+  product : Rounds (fin false m e *f invLn2) false (m * up e * 3248660424278399) (down e * 2251799813685248) w
   product =
       subst (λ (z : Float). Rounds z false (m * up e * 3248660424278399) (down e * 2251799813685248) w)
-      (sym (mul-value (fin false m e) inv-ln2 false false (m * up e) (down e) 3248660424278399 2251799813685248 (down-pos e) (lit< tt) (refl, refl) inv-value))
+      (sym (mul-value (fin false m e) invLn2 false false (m * up e) (down e) 3248660424278399 2251799813685248 (down-pos e) (lit< tt) (refl, refl) inv-value))
       (rounded false (m * up e * 3248660424278399) (down e * 2251799813685248) 1094 w (mul-pos (down-pos e) (lit< tt)) (lit≤ tt) (lit≤ tt)
       (product-in (m * up e) (down e) U 3248660424278399 2251799813685248 (down-pos e) U-pos (lit< tt) (lit≤ tt) (wider (m * up e) (down e) L)))
 
@@ -188,11 +188,11 @@ module _ (m : ℕ) (e : ℤ) (L : m * up e ≤ 746 * down e) (E : 78047381542330
   p-most : Gp ≤ 1077 * U
   p-most = product-high (m * up e) (down e) Gp w U (down-pos e) wide L p-high
 
-  total : Rounds (quotient (fin false m e)) false (Gp * 2 + 1 * U) (U * 2) w
+  total : Rounds (quotientOf (fin false m e)) false (Gp * 2 + 1 * U) (U * 2) w
   unfolding Gp
   total =
       subst (λ (z : Float). Rounds z false (Gp * 2 + 1 * U) (U * 2) w)
-      (sym (add-value (fin false m e *f inv-ln2) half false Gp U 1 2 U-pos (lit< tt) (product .value) half-value (product-low (m * up e) (down e) Gp w U (down-pos e) wide (least-of (m * up e) (down e) E) p-low)))
+      (sym (add-value (fin false m e *f invLn2) half false Gp U 1 2 U-pos (lit< tt) (product .value) half-value (product-low (m * up e) (down e) Gp w U (down-pos e) wide (least-of (m * up e) (down e) E) p-low)))
       (rounded false (Gp * 2 + 1 * U) (U * 2) 1094 w (lit< tt) (lit≤ tt) (lit≤ tt) (sum-in Gp U U-pos p-most))
 
   Gq : ℕ
@@ -208,13 +208,13 @@ module _ (m : ℕ) (e : ℤ) (L : m * up e ≤ 746 * down e) (E : 78047381542330
   n : ℕ
   n = Gq / U
 
-  turns-is : toUnsigned 64 (quotient (fin false m e)) ≡ n
+  turns-is : toUnsigned 64 (quotientOf (fin false m e)) ≡ n
   unfolding Gq n
-  turns-is = whole-part (quotient (fin false m e)) Gq U U-pos (total .value) q-most
+  turns-is = whole-part (quotientOf (fin false m e)) Gq U U-pos (total .value) q-most
 
-  turns-in : T (lt (fin true 1 (pos 0)) (quotient (fin false m e))) × T (lt (quotient (fin false m e)) (fin false 1 (pos 64)))
+  turns-in : T (lt (fin true 1 (pos 0)) (quotientOf (fin false m e))) × T (lt (quotientOf (fin false m e)) (fin false 1 (pos 64)))
   unfolding Gq
-  turns-in = cast-in (quotient (fin false m e)) Gq U U-pos (total .value) q-most
+  turns-in = cast-in (quotientOf (fin false m e)) Gq U U-pos (total .value) q-most
 
   n-low : 200000000 * n * down e ≤ m * up e * 288539010 + 100000400 * down e
   unfolding n
@@ -230,37 +230,37 @@ module _ (m : ℕ) (e : ℤ) (L : m * up e ≤ 746 * down e) (E : 78047381542330
   whole-n : HasValue (num n) false n 1
   whole-n = num-value n (le-trans n-few (lit≤ tt))
 
-  high : Rounds (num n *f ln2-hi) false (n * 2977044471) (1 * 4294967296) w
+  high : Rounds (num n *f ln2Hi) false (n * 2977044471) (1 * 4294967296) w
   high =
       subst (λ (z : Float). Rounds z false (n * 2977044471) (1 * 4294967296) w)
-      (sym (mul-value (num n) ln2-hi false false n 1 2977044471 4294967296 (lit< tt) (lit< tt) whole-n hi-value))
+      (sym (mul-value (num n) ln2Hi false false n 1 2977044471 4294967296 (lit< tt) (lit< tt) whole-n hi-value))
       (rounded false (n * 2977044471) (1 * 4294967296) 1094 w (lit< tt) (lit≤ tt) (lit≤ tt) (product-in n 1 U 2977044471 4294967296 (lit< tt) U-pos (lit< tt) (lit≤ tt) (fewer n n-few)))
 
-  first : Iv (fin false m e -f num n *f ln2-hi) 363441 363441
+  first : Iv (fin false m e -f num n *f ln2Hi) 363441 363441
   unfolding sub
   first = go (ltb (m * up e * U) (high .G * down e)) (ltb→lt (m * up e * U) (high .G * down e)) (nltb→le (m * up e * U) (high .G * down e))
     where
-      y : HasValue (neg (num n *f ln2-hi)) true (high .G) U
-      y = neg-value (num n *f ln2-hi) (high .G) U (high .value)
+      y : HasValue (neg (num n *f ln2Hi)) true (high .G) U
+      y = neg-value (num n *f ln2Hi) (high .G) U (high .value)
 
-      go : (t : Bool) → (T t → m * up e * U < high .G * down e) → (T (not t) → high .G * down e ≤ m * up e * U) → Iv (fin false m e +f neg (num n *f ln2-hi)) 363441 363441
+      go : (t : Bool) → (T t → m * up e * U < high .G * down e) → (T (not t) → high .G * down e ≤ m * up e * U) → Iv (fin false m e +f neg (num n *f ln2Hi)) 363441 363441
       go true f g =
-          subst (λ (z : Float). Iv z 363441 363441) (sym (sub-value-less (fin false m e) (neg (num n *f ln2-hi)) (m * up e) (down e) (high .G) U (down-pos e) U-pos (refl, refl) y (f tt)))
+          subst (λ (z : Float). Iv z 363441 363441) (sym (sub-value-less (fin false m e) (neg (num n *f ln2Hi)) (m * up e) (down e) (high .G) U (down-pos e) U-pos (refl, refl) y (f tt)))
           (iv-round true (high .G * down e - m * up e * U) (U * down e) 363440 363441 363441 (mul-pos U-pos (down-pos e))
           (subst (λ (z : ℕ). (high .G * down e - m * up e * U) * 1048576 ≤ 363440 * z) (mul-comm (down e) U)
           (beneath (m * up e) (down e) n (high .G) w U wide n-few n-low (ratio-high n 1 (high .G) w U 2977044471 4294967296 69314719 100000000 (lit< tt) (lit≤ tt) (high .near)))) (lit≤ tt) (lit≤ tt))
       go false f g =
-          subst (λ (z : Float). Iv z 363441 363441) (sym (add-value (fin false m e) (neg (num n *f ln2-hi)) true (m * up e) (down e) (high .G) U (down-pos e) U-pos (refl, refl) y (g tt)))
+          subst (λ (z : Float). Iv z 363441 363441) (sym (add-value (fin false m e) (neg (num n *f ln2Hi)) true (m * up e) (down e) (high .G) U (down-pos e) U-pos (refl, refl) y (g tt)))
           (iv-round false (m * up e * U - high .G * down e) (down e * U) 363440 363441 363441 (mul-pos (down-pos e) U-pos)
           (above (m * up e) (down e) n (high .G) w U wide n-few n-high (ratio-low n 1 (high .G) w U 2977044471 4294967296 69314718 100000000 (lit< tt) (lit≤ tt) (high .near))) (lit≤ tt) (lit≤ tt))
 
-  low : Iv (num n *f ln2-lo) 2 2
+  low : Iv (num n *f ln2Lo) 2 2
   low =
-      subst (λ (z : Float). Iv z 2 2) (sym (mul-value (num n) ln2-lo false false n 1 3691024475790907 19342813113834066795298816 (lit< tt) (lit< tt) whole-n lo-value))
+      subst (λ (z : Float). Iv z 2 2) (sym (mul-value (num n) ln2Lo false false n 1 3691024475790907 19342813113834066795298816 (lit< tt) (lit< tt) whole-n lo-value))
       (iv-round false (n * 3691024475790907) (1 * 19342813113834066795298816) 1 2 2 (lit< tt) (low-part n n-few) (lit≤ tt) (lit≤ tt))
 
-  rest-iv : Iv (fin false m e -f num n *f ln2-hi -f num n *f ln2-lo) 363444 363444
-  rest-iv = iv-sub (fin false m e -f num n *f ln2-hi) (num n *f ln2-lo) 363441 363441 2 2 363444 363444 (lit≤ tt) (lit≤ tt) (lit≤ tt) (lit≤ tt) first low
+  rest-iv : Iv (fin false m e -f num n *f ln2Hi -f num n *f ln2Lo) 363444 363444
+  rest-iv = iv-sub (fin false m e -f num n *f ln2Hi) (num n *f ln2Lo) 363441 363441 2 2 363444 363444 (lit≤ tt) (lit≤ tt) (lit≤ tt) (lit≤ tt) first low
 
 -- ---- a float a above `edge` and at most 746
 open-a : (m : ℕ) (e : ℤ) → T (lt edge (fin false m e)) → T (not (lt c746 (fin false m e))) → (m * up e ≤ 746 * down e) × (780473815423307 * down e < m * up e * 2251799813685248)
@@ -279,15 +279,15 @@ module _ (a : Float) (p : T (lt edge a)) (q : T (not (lt c746 a))) where
   opened : (m : ℕ) (e : ℤ) → a ≡ fin false m e → (m * up e ≤ 746 * down e) × (780473815423307 * down e < m * up e * 2251799813685248)
   opened m e s = open-a m e (subst (λ (z : Float). T (lt edge z)) s p) (subst (λ (z : Float). T (not (lt c746 z))) s q)
 
-  pub cast-fine : T (lt (fin true 1 (pos 0)) (quotient a)) × T (lt (quotient a) (fin false 1 (pos 64)))
-  cast-fine = only-fin a p q (λ (z : Float). T (lt (fin true 1 (pos 0)) (quotient z)) × T (lt (quotient z) (fin false 1 (pos 64)))) (λ m e s. let o = opened m e s in turns-in m e (o .0) (o .1))
+  pub cast-fine : T (lt (fin true 1 (pos 0)) (quotientOf a)) × T (lt (quotientOf a) (fin false 1 (pos 64)))
+  cast-fine = only-fin a p q (λ (z : Float). T (lt (fin true 1 (pos 0)) (quotientOf z)) × T (lt (quotientOf z) (fin false 1 (pos 64)))) (λ m e s. let o = opened m e s in turns-in m e (o .0) (o .1))
 
   pub turns-le : turnsOf a ≤ 1100
   unfolding turnsOf
-  turns-le = only-fin a p q (λ (z : Float). toUnsigned 64 (quotient z) ≤ 1100) (λ m e s. let o = opened m e s in subst (λ (k : ℕ). k ≤ 1100) (sym (turns-is m e (o .0) (o .1))) (n-few m e (o .0) (o .1)))
+  turns-le = only-fin a p q (λ (z : Float). toUnsigned 64 (quotientOf z) ≤ 1100) (λ m e s. let o = opened m e s in subst (λ (k : ℕ). k ≤ 1100) (sym (turns-is m e (o .0) (o .1))) (n-few m e (o .0) (o .1)))
 
   pub rest-small : Iv (restOf a (turnsOf a)) 363444 363444
   unfolding turnsOf restOf
-  rest-small = only-fin a p q (λ (z : Float). Iv (z -f num (toUnsigned 64 (quotient z)) *f ln2-hi -f num (toUnsigned 64 (quotient z)) *f ln2-lo) 363444 363444)
+  rest-small = only-fin a p q (λ (z : Float). Iv (z -f num (toUnsigned 64 (quotientOf z)) *f ln2Hi -f num (toUnsigned 64 (quotientOf z)) *f ln2Lo) 363444 363444)
       (λ m e s. let o = opened m e s in
-      subst (λ (k : ℕ). Iv (fin false m e -f num k *f ln2-hi -f num k *f ln2-lo) 363444 363444) (sym (turns-is m e (o .0) (o .1))) (rest-iv m e (o .0) (o .1)))
+      subst (λ (k : ℕ). Iv (fin false m e -f num k *f ln2Hi -f num k *f ln2Lo) 363444 363444) (sym (turns-is m e (o .0) (o .1))) (rest-iv m e (o .0) (o .1)))

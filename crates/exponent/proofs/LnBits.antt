@@ -13,7 +13,7 @@ use lib.Ieee.Fits.{kept-lt, up-pos, down-pos, and-l, and-r}
 use lib.Ieee.Exact.{HasValue, round-exact}
 use lib.Ieee.Back.{round-whole}
 use Rattle.laws.specs.Floats.{_-f_, _*f_, num, half, one}
-use Rattle.exponent.specs.Ln.{digitsOf, root2, least, c2p54}
+use Rattle.exponent.specs.Ln.{mantissaOf, root2, c2m1022, c2p54}
 use Rattle.laws.proofs.Near.{Near}
 use Rattle.laws.proofs.Rounded.{rounded}
 use Rattle.laws.proofs.Ops.{mul-value, add-value, sub-value-less, num-value, neg-value}
@@ -60,12 +60,12 @@ reduce (fin s m e) q h = (h .0, cancel (m * up e) q (down e) 4503599627370496 (2
     cancel : (n q d p w : ℕ) → 0 < w → n * (p * w) ≡ q * w * d → n * p ≡ q * d
     cancel n q d p w W h = eq-of-mul-eq-mul-right w W (n * p) (q * d) (omega arith)
 
-pub digits-value : (b : ℕ) → HasValue (digitsOf b) false (digit b) 4503599627370496
+pub digits-value : (b : ℕ) → HasValue (mantissaOf b) false (digit b) 4503599627370496
 digits-value b =
     let B = 4607182418800017408 + b % 4503599627370496 in
-    reduce (digitsOf b) (digit b)
-    (subst (λ (n : ℕ). HasValue (digitsOf b) false ((4503599627370496 + n) * 2 ^ 1022) (2 ^ 1074)) (fields b .0)
-    (subst (λ (n : ℕ). HasValue (digitsOf b) false ((4503599627370496 + B % 4503599627370496) * 2 ^ n) (2 ^ 1074)) (fields b .1)
+    reduce (mantissaOf b) (digit b)
+    (subst (λ (n : ℕ). HasValue (mantissaOf b) false ((4503599627370496 + n) * 2 ^ 1022) (2 ^ 1074)) (fields b .0)
+    (subst (λ (n : ℕ). HasValue (mantissaOf b) false ((4503599627370496 + B % 4503599627370496) * 2 ^ n) (2 ^ 1074)) (fields b .1)
     (bits-is B (above b .0) (above b .1))))
 
 one-value : HasValue one false 1 1
@@ -183,11 +183,11 @@ small-product x d L U S Z q h = lt-of-le-of-lt (le-of-eq (mul-assoc x 1801439850
 grown : (x d G U : ℕ) → 0 < x → 0 < d → d ≤ U → Near (G * (d * 1)) (x * 18014398509481984 * U) (d * 1 * 4503599627370496) → 9007199254740992 ≤ G
 grown x d G U X D l n = le-of-mul-le-mul-right {m = 9007199254740992} {n = G} {k = d} (omega (arith, mul-le-mul X l)) D
 
-below-least : (m : ℕ) (e : ℤ) → T (lt (fin false m e) least) → m * up e * 2 ^ 1022 < 1 * down e
+below-least : (m : ℕ) (e : ℤ) → T (lt (fin false m e) c2m1022) → m * up e * 2 ^ 1022 < 1 * down e
 unfolding lt ofBits
 below-least m e t = ltb→lt (m * up e * 2 ^ 1022) (1 * down e) t
 
-pub lifted-low : (m : ℕ) (e : ℤ) → T (fits binary64 (fin false m e)) → 0 < m → T (lt (fin false m e) least)
+pub lifted-low : (m : ℕ) (e : ℤ) → T (fits binary64 (fin false m e)) → 0 < m → T (lt (fin false m e) c2m1022)
     → (G : ℕ) × HasValue (fin false m e *f c2p54) false G (2 ^ 1074) × (9007199254740992 ≤ G)
 lifted-low m e t p l =
     let x = m * up e in

@@ -9,8 +9,8 @@ use lib.Dec.{lit≤, lit<}
 use lib.Ieee.{Float, ofBits}
 use lib.Ieee.Exact.{HasValue}
 use Rattle.laws.specs.Floats.{_+f_, _-f_, _*f_, _/f_, num, +0, two}
-use Rattle.exponent.specs.Steps.{three, ln2-hi, ln2-lo, grid18, grid35, headOf, lostOf}
-use Rattle.exponent.specs.Ln.{tailOf, ratio, fifthOf, cross, firstOf, behind, cubeOf, lowOf, totalOf, sumOf}
+use Rattle.exponent.specs.Steps.{three, ln2Hi, ln2Lo, grid18, grid35, roundedTo, lostOf}
+use Rattle.exponent.specs.Ln.{tailOf, ratioOf, fifthOf, crossOf, headOf, behindOf, cubeOf, lowOf, lnFrom, sumOf}
 use Rattle.laws.proofs.Loops.{for-keeps}
 use Rattle.laws.proofs.Ops.{num-value}
 use Rattle.laws.proofs.Interval.{Iv, Least, iv-add, iv-sub, iv-mul, iv-mul-plus, iv-div, iv-widen, least-value, above-least, above-sum}
@@ -20,7 +20,7 @@ two-iv : Iv two 2097152 2097152
 unfolding ofBits
 two-iv = lit≤ tt
 
-lo-iv : Iv ln2-lo 1 1
+lo-iv : Iv ln2Lo 1 1
 unfolding ofBits
 lo-iv = lit≤ tt
 
@@ -95,16 +95,16 @@ module _ (k f : Float) (B D Af Bf F R S Z M N J W X Y P Q O : ℕ) (K : Iv k 112
   d-least = least-two f F R small f-iv
 
   abbrev s : Float
-  s = ratio f
+  s = ratioOf f
 
   abbrev t : Float
-  t = headOf grid18 s
+  t = roundedTo grid18 s
 
   abbrev g : Float
-  g = headOf grid35 f
+  g = roundedTo grid35 f
 
   abbrev b : Float
-  b = behind f t
+  b = behindOf f t
 
   s-iv : Iv s (S + 1) (S + 1)
   s-iv = iv-div f (two +f f) F R S (S + 1) pos s1 (same (S + 1)) (omega arith) f-iv d-least
@@ -136,23 +136,23 @@ module _ (k f : Float) (B D Af Bf F R S Z M N J W X Y P Q O : ℕ) (K : Iv k 112
   tg-iv : Iv (t *f g) (M + 1) (M + 1)
   tg-iv = iv-mul t g (S + 9) (F + 8) M (M + 1) m1 (same (M + 1)) (omega arith) t-iv g-iv
 
-  w-iv : Iv (cross f t) 200 200
+  w-iv : Iv (crossOf f t) 200 200
   w-iv = iv-mul t (f -f g) (S + 9) 16 199 200 (omega arith) (lit≤ tt) (lit≤ tt) t-iv r-iv
 
-  n-iv : Iv (f -f (t +f t) -f t *f g -f cross f t) (F + S + S + M + 223) (F + S + S + M + 223)
+  n-iv : Iv (f -f (t +f t) -f t *f g -f crossOf f t) (F + S + S + M + 223) (F + S + S + M + 223)
   n-iv =
       let i : Iv (t +f t) (S + S + 19) (S + S + 19) = iv-add t t (S + 9) (S + 9) (S + 9) (S + 9) (S + S + 19) (S + S + 19) (omega arith) (omega arith) (omega arith) (omega arith) t-iv t-iv in
       let j : Iv (f -f (t +f t)) (F + S + S + 20) (F + S + S + 20) = iv-sub f (t +f t) F F (S + S + 19) (S + S + 19) (F + S + S + 20) (F + S + S + 20) (omega arith) (omega arith) (omega arith) (omega arith) f-iv i in
       let l : Iv (f -f (t +f t) -f t *f g) (F + S + S + M + 22) (F + S + S + M + 22) = iv-sub (f -f (t +f t)) (t *f g) (F + S + S + 20) (F + S + S + 20) (M + 1) (M + 1) (F + S + S + M + 22) (F + S + S + M + 22) (omega arith) (omega arith) (omega arith) (omega arith) j tg-iv in
-      iv-sub (f -f (t +f t) -f t *f g) (cross f t) (F + S + S + M + 22) (F + S + S + M + 22) 200 200 (F + S + S + M + 223) (F + S + S + M + 223) (omega arith) (omega arith) (omega arith) (omega arith) l w-iv
+      iv-sub (f -f (t +f t) -f t *f g) (crossOf f t) (F + S + S + M + 22) (F + S + S + M + 22) 200 200 (F + S + S + M + 223) (F + S + S + M + 223) (omega arith) (omega arith) (omega arith) (omega arith) l w-iv
 
   b-iv : Iv b (N + 1) (N + 1)
-  b-iv = iv-div (f -f (t +f t) -f t *f g -f cross f t) (two +f f) (F + S + S + M + 223) R N (N + 1) pos n1 (same (N + 1)) (omega arith) n-iv d-least
+  b-iv = iv-div (f -f (t +f t) -f t *f g -f crossOf f t) (two +f f) (F + S + S + M + 223) R N (N + 1) pos n1 (same (N + 1)) (omega arith) n-iv d-least
 
-  under-iv : Iv (cross f t +f b *f f) (J + 202) (J + 202)
+  under-iv : Iv (crossOf f t +f b *f f) (J + 202) (J + 202)
   under-iv =
       let i : Iv (b *f f) (J + 1) (J + 1) = iv-mul b f (N + 1) F J (J + 1) v1 (same (J + 1)) (omega arith) b-iv f-iv in
-      iv-add (cross f t) (b *f f) 200 200 (J + 1) (J + 1) (J + 202) (J + 202) (omega arith) (omega arith) (omega arith) (omega arith) w-iv i
+      iv-add (crossOf f t) (b *f f) 200 200 (J + 1) (J + 1) (J + 202) (J + 202) (omega arith) (omega arith) (omega arith) (omega arith) w-iv i
 
   tt-iv : Iv (t *f t) (Z + 1) (Z + 1)
   tt-iv = iv-mul t t (S + 9) (S + 9) Z (Z + 1) z1 (same (Z + 1)) (omega arith) t-iv t-iv
@@ -178,11 +178,11 @@ module _ (k f : Float) (B D Af Bf F R S Z M N J W X Y P Q O : ℕ) (K : Iv k 112
 
   low-iv : Iv (lowOf k f s (tailOf (s *f s)) t) (X + P + J + 1283) (X + P + J + 1283)
   low-iv =
-      let i : Iv (k *f ln2-lo) 1076 1076 = iv-mul k ln2-lo 1127219200 1 1075 1076 (lit≤ tt) (lit≤ tt) (lit≤ tt) k-iv lo-iv in
-      let y = cross f t +f b *f f in
+      let i : Iv (k *f ln2Lo) 1076 1076 = iv-mul k ln2Lo 1127219200 1 1075 1076 (lit≤ tt) (lit≤ tt) (lit≤ tt) k-iv lo-iv in
+      let y = crossOf f t +f b *f f in
       let x = fifthOf s t b (tailOf (s *f s)) in
       let j : Iv (x -f y) (X + P + J + 206) (X + P + J + 206) = iv-sub x y (X + P + 3) (X + P + 3) (J + 202) (J + 202) (X + P + J + 206) (X + P + J + 206) (omega arith) (omega arith) (omega arith) (omega arith) fifth-iv under-iv in
-      iv-add (k *f ln2-lo) (x -f y) 1076 1076 (X + P + J + 206) (X + P + J + 206) (X + P + J + 1283) (X + P + J + 1283) (omega arith) (omega arith) (omega arith) (omega arith) i j
+      iv-add (k *f ln2Lo) (x -f y) 1076 1076 (X + P + J + 206) (X + P + J + 206) (X + P + J + 1283) (X + P + J + 1283) (omega arith) (omega arith) (omega arith) (omega arith) i j
 
   cube-iv : Iv (cubeOf t) (O + 1) (O + 1)
   cube-iv =
@@ -190,18 +190,18 @@ module _ (k f : Float) (B D Af Bf F R S Z M N J W X Y P Q O : ℕ) (K : Iv k 112
       let j : Iv (two *f (t *f t *f t)) (2 * Q + 3) (2 * Q + 3) = iv-mul two (t *f t *f t) 2097152 (Q + 1) (2 * Q + 2) (2 * Q + 3) (twice Q) (omega arith) (omega arith) two-iv i in
       iv-div (two *f (t *f t *f t)) three (2 * Q + 3) 3145728 O (O + 1) (lit< tt) o1 (same (O + 1)) (omega arith) j three-least
 
-  high-iv : Iv (k *f ln2-hi) 781329351 (D + 1)
+  high-iv : Iv (k *f ln2Hi) 781329351 (D + 1)
   unfolding ofBits
   high-iv = iv-mul-plus k 2977044471 (negsuc 31) 1127219200 B 726818 781329350 D 781329351 (D + 1) (lit≤ tt) hD (lit≤ tt) (omega arith) (lit≤ tt) (omega arith) K (lit≤ tt)
 
-  first-iv : Iv (firstOf f t) (Af + M + 2) (Bf + M + 2)
+  first-iv : Iv (headOf f t) (Af + M + 2) (Bf + M + 2)
   first-iv = iv-sub f (t *f g) Af Bf (M + 1) (M + 1) (Af + M + 2) (Bf + M + 2) (omega arith) (omega arith) (omega arith) (omega arith) I tg-iv
 
   pub sum-iv : Iv (sumOf k f) 782237696 744488960
-  unfolding totalOf
+  unfolding lnFrom
   sum-iv =
-      let hi = k *f ln2-hi in
-      let he = firstOf f t in
+      let hi = k *f ln2Hi in
+      let he = headOf f t in
       let cu = cubeOf t in
       let lo = lowOf k f s (tailOf (s *f s)) t in
       let i : Iv (hi +f he) (781329354 + Af + M) (D + Bf + M + 4) = iv-add hi he 781329351 (D + 1) (Af + M + 2) (Bf + M + 2) (781329354 + Af + M) (D + Bf + M + 4) (omega arith) (omega arith) (omega arith) (omega arith) high-iv first-iv in

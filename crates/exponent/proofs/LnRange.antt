@@ -15,7 +15,7 @@ use lib.Ieee.Positive.{first-pos}
 use lib.Ieee.Bits.{is-false}
 use Rattle.laws.specs.Floats.{_-f_, _*f_, num, +0, half, one, finite}
 use Rattle.exponent.specs.Steps.{c710, c746}
-use Rattle.exponent.specs.Ln.{joinedOf, sumOf, normalOf, lnOf, fromBits, digitsOf, root2, least, c1023, c1077, c2p54}
+use Rattle.exponent.specs.Ln.{joinedOf, sumOf, normalOf, lnOf, fromBits, mantissaOf, root2, c2m1022, c1023, c1077, c2p54}
 use Rattle.laws.proofs.Interval.{Iv}
 use Rattle.exponent.proofs.LnBounds.{sum-iv}
 use Rattle.exponent.proofs.LnBits.{exponent-iv, digit, digits-value, upper-part, lower-part, root-test, bits-high, bits-low, lifted-low}
@@ -83,7 +83,7 @@ either false x y h k = k tt
 -- ln of y * 2 ^ (1023 - d), by the exponent's field
 field-between : (b d : ℕ) (c : Float) → HasValue c false d 1 → d ≤ 1100 → b < 9218868437227405312 → d ≤ b / 4503599627370496 + 1075 → b / 4503599627370496 ≤ d + 1023 → Between (fromBits b c)
 field-between b d c C hd hb l h =
-    let m = digitsOf b in
+    let m = mantissaOf b in
     let q = digit b in
     let M = digits-value b in
     let R = root-test m q M in
@@ -139,6 +139,6 @@ range m e f p =
     let x = fin false m e in
     let t = positive-tests m e p in
     rw (passes-nan x (above-no-nan +0 x p), t .1, t .2, t .3)
-    (either (lt x least) (normalOf (x *f c2p54) c1077) (normalOf x c1023)
+    (either (lt x c2m1022) (normalOf (x *f c2p54) c1077) (normalOf x c1023)
     (λ l. let g = lifted-low m e f (t .0) l in lifted-between (x *f c2p54) (g .0) (mul-fits binary64 x c2p54) (g .1) (g .2))
     (λ l. normal-between m e f (t .0)))

@@ -9,7 +9,7 @@ use Rattle.laws.specs.Loop.{turns}
 use Rattle.laws.specs.Floats.{+0, one, finite, positive}
 use Rattle.laws.proofs.Floats.{zero-ind}
 use Rattle.exponent.specs.Steps.{c710, c746}
-use Rattle.exponent.specs.Ln.{tailOf, fifthOf, totalOf, joinedOf, normalOf, lnOf}
+use Rattle.exponent.specs.Ln.{tailOf, fifthOf, lnFrom, joinedOf, normalOf, lnOf}
 use Rattle.exponent.proofs.Tests.{passes-nan, below-no-nan}
 use Rattle.exponent.proofs.LnRange.{range}
 
@@ -37,7 +37,7 @@ ln-zero x f h = zero-ind (λ (z : Float). lnOf z ≡ inf true) at-zero at-minus-
 
 -- 1 gives 0
 pub ln-one : lnOf one ≡ +0
-unfolding lnOf ne lt le eq ofBits normalOf joinedOf fifthOf totalOf turns tailOf toBits add sub mul div ofInt neg
+unfolding lnOf ne lt le eq ofBits normalOf joinedOf fifthOf lnFrom turns tailOf toBits add sub mul div ofInt neg
 ln-one = refl
 
 -- +infinity gives itself

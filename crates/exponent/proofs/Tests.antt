@@ -14,7 +14,7 @@ use Rattle.laws.proofs.Interval.{Iv}
 use Rattle.laws.proofs.Signs.{mul-signed, signed-no-nan}
 use Rattle.exponent.specs.Steps.{c710, c746}
 use Rattle.exponent.specs.Exp.{edge}
-use Rattle.exponent.specs.Ln.{least, c2p54}
+use Rattle.exponent.specs.Ln.{c2m1022, c2p54}
 
 -- ---- NaN, and quotients by zero
 pub passes-nan : (x : Float) → T (not (isNan x)) → ne x x ≡ false
@@ -83,7 +83,7 @@ turned (fin true m e) p q = (p, q)
 turned (fin false m e) p q = absurd p
 
 -- ---- ln: what the small branch is called on
-pub lifted-no-nan : (x : Float) → lt x +0 ≡ false → lt x least ≡ true → T (not (isNan (x *f c2p54)))
+pub lifted-no-nan : (x : Float) → lt x +0 ≡ false → lt x c2m1022 ≡ true → T (not (isNan (x *f c2p54)))
 unfolding lt ofBits mul
 lifted-no-nan nan n l = absurd (false≢true l)
 lifted-no-nan (inf true) n l = absurd (true≢false n)

@@ -1,56 +1,57 @@
--- ln, as a fixed list of rounded steps (docs/ELEMENTARY.md). Definitions only.
+-- ln, as a fixed list of rounded steps. Definitions only.
+-- docs/ELEMENTARY.md, 'ln(x)': a name here is the page's, with `Of` behind it where it is a function.
 use Prim.Native.Nat.{ℕ, _+_, _-_, _*_, _/_, _%_}
 use mathlib.Core.Bool.{true, false, cond}
 use lib.Ieee.{Float, nan, inf, binary64, lt, eq, ne, toBits}
 use Rattle.laws.specs.Loop.{for}
 use Rattle.laws.specs.Floats.{_+f_, _-f_, _*f_, _/f_, f64, num, +0, half, one, two}
-use Rattle.exponent.specs.Steps.{three, ln2-hi, ln2-lo, grid18, grid35, headOf, lostOf}
+use Rattle.exponent.specs.Steps.{three, ln2Hi, ln2Lo, grid18, grid35, roundedTo, lostOf}
 
--- p becomes (p + 2 / (25 - 2 j)) * z for j = 0 .. 10: 2/5 z + 2/7 z^2 + .. + 2/25 z^11
+-- tail becomes (tail + 2 / (25 - 2 j)) * z for j = 0 .. 10: 2/5 z + 2/7 z^2 + .. + 2/25 z^11
 unfoldable pub tailOf : Float → Float
-tailOf z = for 0 11 (λ (j : ℕ) (p : Float). (p +f two /f num (25 - 2 * j)) *f z) +0
+tailOf z = for 0 11 (λ (j : ℕ) (tail : Float). (tail +f two /f num (25 - 2 * j)) *f z) +0
 
--- ln (1 + f) = 2 s + 2/3 s^3 + 2/5 s^5 + .. for s = f / (2 + f)
-abbrev pub ratio : Float → Float
-ratio f = f /f (two +f f)
+-- ln (1 + f) = 2 ratio + 2/3 ratio^3 + 2/5 ratio^5 + ..
+abbrev pub ratioOf : Float → Float
+ratioOf f = f /f (two +f f)
 
--- 2/5 s^5 + 2/7 s^7 + .., and what b adds to 2/3 t^3, for s = t + b
+-- 2/5 ratio^5 + 2/7 ratio^7 + .., and what behind adds to 2/3 t^3, for ratio = t + behind
 unfoldable pub fifthOf : Float → Float → Float → Float → Float
-fifthOf s t b p = b *f (s *f s +f s *f t +f t *f t) *f two /f three +f s *f (s *f s) *f p
+fifthOf ratio t behind tail = behind *f (ratio *f ratio +f ratio *f t +f t *f t) *f two /f three +f ratio *f (ratio *f ratio) *f tail
 
--- 2 s is f - t g - (t (f - g) + b f): t is s and g is f, each rounded to few digits, so that f - t g is exact, and b is s - t
-abbrev pub cross : Float → Float → Float
-cross f t = t *f (f -f headOf grid35 f)
+-- 2 ratio is head - (cross + behind f), with head = f - t g and cross = t (f - g): t is ratio and g is f, each rounded to few digits, so that head is exact, and behind is ratio - t
+abbrev pub crossOf : Float → Float → Float
+crossOf f t = t *f (f -f roundedTo grid35 f)
 
-abbrev pub firstOf : Float → Float → Float
-firstOf f t = f -f t *f headOf grid35 f
+abbrev pub headOf : Float → Float → Float
+headOf f t = f -f t *f roundedTo grid35 f
 
-abbrev pub behind : Float → Float → Float
-behind f t = (f -f (t +f t) -f t *f headOf grid35 f -f cross f t) /f (two +f f)
+abbrev pub behindOf : Float → Float → Float
+behindOf f t = (f -f (t +f t) -f t *f roundedTo grid35 f -f crossOf f t) /f (two +f f)
 
 abbrev pub cubeOf : Float → Float
 cubeOf t = two *f (t *f t *f t) /f three
 
 abbrev pub lowOf : Float → Float → Float → Float → Float → Float
-lowOf k f s p t = k *f ln2-lo +f (fifthOf s t (behind f t) p -f (cross f t +f behind f t *f f))
+lowOf k f ratio tail t = k *f ln2Lo +f (fifthOf ratio t (behindOf f t) tail -f (crossOf f t +f behindOf f t *f f))
 
 -- high + head + cube + low, with what the roundings of the first two sums take away
-unfoldable pub totalOf : Float → Float → Float → Float → Float
-totalOf high head cube low = high +f head +f cube +f (lostOf (high +f head) cube +f (lostOf high head +f low))
+unfoldable pub lnFrom : Float → Float → Float → Float → Float
+lnFrom high head cube low = high +f head +f cube +f (lostOf (high +f head) cube +f (lostOf high head +f low))
 
 abbrev pub sumAt : Float → Float → Float → Float → Float → Float
-sumAt k f s p t = totalOf (k *f ln2-hi) (firstOf f t) (cubeOf t) (lowOf k f s p t)
+sumAt k f ratio tail t = lnFrom (k *f ln2Hi) (headOf f t) (cubeOf t) (lowOf k f ratio tail t)
 
 -- k ln 2 + ln (1 + f), and k ln 2 + ln m
 abbrev pub sumOf : Float → Float → Float
-sumOf k f = sumAt k f (ratio f) (tailOf (ratio f *f ratio f)) (headOf grid18 (ratio f))
+sumOf k f = sumAt k f (ratioOf f) (tailOf (ratioOf f *f ratioOf f)) (roundedTo grid18 (ratioOf f))
 
 unfoldable pub joinedOf : Float → Float → Float
 joinedOf k m = sumOf k (m -f one)
 
--- the digits of a bit pattern, as a number from 1 to 2
-abbrev pub digitsOf : ℕ → Float
-digitsOf b = f64 (4607182418800017408 + b % 4503599627370496)
+-- the digits of a bit pattern b, as a number from 1 to 2
+abbrev pub mantissaOf : ℕ → Float
+mantissaOf b = f64 (4607182418800017408 + b % 4503599627370496)
 
 -- the square root of 2; 1023 and 1077; 2 ^ -1022 and 2 ^ 54
 abbrev pub root2 : Float
@@ -62,8 +63,8 @@ c1023 = f64 0x408f_f800_0000_0000
 abbrev pub c1077 : Float
 c1077 = f64 0x4090_d400_0000_0000
 
-abbrev pub least : Float
-least = f64 0x0010_0000_0000_0000
+abbrev pub c2m1022 : Float
+c2m1022 = f64 0x0010_0000_0000_0000
 
 abbrev pub c2p54 : Float
 c2p54 = f64 0x4350_0000_0000_0000
@@ -71,8 +72,8 @@ c2p54 = f64 0x4350_0000_0000_0000
 -- ln of y * 2 ^ (1023 - down), for a y that is finite, above zero and not subnormal, by its bit pattern b
 abbrev pub fromBits : ℕ → Float → Float
 fromBits b down =
-    cond (lt root2 (digitsOf b)) (joinedOf (num (b / 4503599627370496 + 1) -f down) (digitsOf b *f half))
-    (joinedOf (num (b / 4503599627370496) -f down) (digitsOf b))
+    cond (lt root2 (mantissaOf b)) (joinedOf (num (b / 4503599627370496 + 1) -f down) (mantissaOf b *f half))
+    (joinedOf (num (b / 4503599627370496) -f down) (mantissaOf b))
 
 unfoldable pub normalOf : Float → Float → Float
 normalOf y down = fromBits (toBits binary64 y) down
@@ -84,4 +85,4 @@ lnOf x =
     (cond (lt x +0) nan
     (cond (eq x +0) (inf true)
     (cond (eq x (inf false)) x
-    (cond (lt x least) (normalOf (x *f c2p54) c1077) (normalOf x c1023)))))
+    (cond (lt x c2m1022) (normalOf (x *f c2p54) c1077) (normalOf x c1023)))))

@@ -6,7 +6,7 @@ ghost use lib.Dec.{T};
 ghost use lib.Ieee.{isNan, lt};
 ghost use Rattle.exponent.specs.Steps.{c746, correctedOf};
 ghost use Rattle.exponent.specs.Exp.{edge, hornerOf, fourthOf, lackOf, kernelOf, turnsOf, restOf, restLowOf, pow2Of, grownOf, shrunkOf, expOf};
-ghost use Rattle.exponent.specs.Ln.{tailOf, fifthOf, totalOf, joinedOf, digitsOf, normalOf, lnOf};
+ghost use Rattle.exponent.specs.Ln.{tailOf, fifthOf, lnFrom, joinedOf, mantissaOf, normalOf, lnOf};
 
 // h with its correction c, where that is no larger than g.
 fn corrected(h: f64, c: f64, g: f64) -> f64
@@ -159,7 +159,7 @@ fn fifth(s: f64, t: f64, b: f64, p: f64) -> f64
 
 // high + head + cube + low, with what the roundings of the first two sums take away.
 fn total(high: f64, head: f64, cube: f64, low: f64) -> f64
-    ensures { λ r. ⌜ r ≡ totalOf high head cube low ⌝ }
+    ensures { λ r. ⌜ r ≡ lnFrom high head cube low ⌝ }
 {
     let sum = high + head;
     let all = sum + cube;
@@ -188,7 +188,7 @@ fn joined(k: f64, m: f64) -> f64
 
 // The digits of a bit pattern, as a number from 1 to 2.
 fn digits(b: u64) -> f64
-    ensures { λ r. ⌜ r ≡ digitsOf b ⌝ }
+    ensures { λ r. ⌜ r ≡ mantissaOf b ⌝ }
 {
     f64::from_bits(4607182418800017408 + b % 4503599627370496)
 }

@@ -1,4 +1,5 @@
 -- The faces of the polytope in their order, as `combinations` of calibrate.rs gives them: sets of constraints, by size, then in dictionary order. Definitions only.
+-- docs/METHOD.md, 'One cell: every face of the polytope'.
 use mathlib.Core.Bool.{Bool, true, false, cond}
 use mathlib.Core.List.{List, [], _∷_, _++_, map}
 use Prim.Native.Nat.{ℕ, zero, suc}

@@ -1,4 +1,5 @@
 -- A slice judged on observations (k, w) with weights. Every operation is rounded once, in the order written. Definitions only.
+-- docs/METHOD.md, 'The end'.
 use mathlib.Core.Bool.{Bool, true, false, _&&_}
 use mathlib.Core.List.{List}
 use Prim.Native.Nat.{ℕ}

@@ -1,4 +1,5 @@
 -- When a slice fails on observations with weights: the conditions of document 01's numbers 8 and 9. Definitions only.
+-- docs/METHOD.md, 'The end'.
 use mathlib.Core.Path.{_≡_}
 use mathlib.Core.Bool.{true, false}
 use mathlib.Core.List.{List}
@@ -17,8 +18,8 @@ module _ (s : SviSlice) (ks ws ts : List Float) where
   abbrev pub paramsOf : Float
   paramsOf = sumsOf s ks ws ts .params
 
-  abbrev pub totalOf : Float
-  totalOf = sumsOf s ks ws ts .weight
+  abbrev pub totalWeight : Float
+  totalWeight = sumsOf s ks ws ts .weight
 
   abbrev pub rmseAt : Float
   rmseAt = rmseOf (sumsOf s ks ws ts) (length ks)
@@ -30,7 +31,7 @@ module _ (c : FitConfig) (s : SviSlice) (ks ws ts : List Float) where
     no-value : (i n : ℕ) → i < length ks → evalRaw s (at ks i) ≡ evaluated.Refused n → OutOfDomain «a_max» objective
     params-not-finite : finite (paramsOf s ks ws ts) ≡ false → OutOfDomain «a_max» objective
     params-above :
-        le (paramsOf s ks ws ts) (objective +f (f64 0x3e11_2e0b_e826_d695 *f objective +f c .«feasibility_tolerance» *f totalOf s ks ws ts *f «a_max» *f «a_max»)) ≡ false
+        le (paramsOf s ks ws ts) (objective +f (f64 0x3e11_2e0b_e826_d695 *f objective +f c .«feasibility_tolerance» *f totalWeight s ks ws ts *f «a_max» *f «a_max»)) ≡ false
         → OutOfDomain «a_max» objective
 
   -- 9: rmse_vol is not finite, or above max_rmse_vol

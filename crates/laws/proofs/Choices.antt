@@ -5,7 +5,7 @@ use mathlib.Core.Bool.{Bool, true, false, not, _&&_, cond}
 use Prim.Native.Nat.{ℕ}
 use lib.Dec.{T, eqb}
 use borrow.Author.Tests.{eq-eqb, ne-eqb, eqb-true, not-true, not-false}
-use Rattle.laws.specs.Choice.{unless}
+use Rattle.laws.specs.Choice.{unless, refusing}
 
 -- two answers that meet one equation are one answer
 pub settled : {A : Type 0} {x y z : A} → x ≡ z → y ≡ z → x ≡ y
@@ -54,7 +54,7 @@ pub number-goes : {A : Type 0} {rest z : A} (n : A) {r m : ℕ} → r ≡ m → 
 number-goes n {r} {m} e h k = if-true _ (eq-eqb m 0 (sym e ∙ h)) k
 
 -- the number itself is handed on in a refusal
-pub number-no : {A : Type 0} (x : A) (refusal : ℕ → A) {n m : ℕ} → n ≡ m → (n ≡ 0 → ⊥) → refusal n ≡ unless (eqb m 0) (refusal m) x
+pub number-no : {A : Type 0} (x : A) (refusal : ℕ → A) {n m : ℕ} → n ≡ m → (n ≡ 0 → ⊥) → refusal n ≡ refusing m refusal x
 number-no x refusal {n} {m} e h = number-stops x e h (ap refusal e)
 
 -- ---- backwards
@@ -62,6 +62,15 @@ number-no x refusal {n} {m} e h = number-stops x e h (ap refusal e)
 pub both : (a b : Bool) → (a && b) ≡ true → (a ≡ true) × (b ≡ true)
 both true b h = (refl, h)
 both false b h = false-true h
+
+-- a conjunction that fails has a part that fails
+pub split : {R : Type 0} (a b : Bool) → (a && b) ≡ false → (a ≡ false → R) → (b ≡ false → R) → R
+split true b h x y = y h
+split false b h x y = x refl
+
+-- nothing is both
+pub off : {b : Bool} → b ≡ false → b ≡ true → ⊥
+off e h = false-true (sym e ∙ h)
 
 -- a chain that ends in 0 passed its first test
 pub passed-one : (t : Bool) (n rest : ℕ) → (n ≡ 0 → ⊥) → unless t n rest ≡ 0 → (t ≡ true) × (rest ≡ 0)

@@ -1,5 +1,6 @@
--- The words that the contracts of every crate use: a loop, a search, a chain of tests, floats, and room that is written at its front.
+-- The words that the contracts of every crate use: a loop, a search, some number below another, a chain of tests, floats, and room that is written at its front.
 pub mod Loop
+pub mod Some
 pub mod Choice
 pub mod Floats
 pub mod Room

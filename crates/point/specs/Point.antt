@@ -1,9 +1,9 @@
 -- What a point's functions answer (surface.rs: `check_point`, `TotalVariance`), on every input. Definitions only.
+-- docs/METHOD.md, 'Surfaces and diagnostics'.
 use mathlib.Core.Bool.{_&&_}
 use Prim.Native.Nat.{ℕ}
-use lib.Dec.{eqb}
 use lib.Ieee.{Float}
-use Rattle.laws.specs.Choice.{unless}
+use Rattle.laws.specs.Choice.{unless, refusing}
 use Rattle.laws.specs.Floats.{finite, positive}
 use Rattle.point.specs.declared.TotalVariance.{TotalVariance}
 use Rattle.point.specs.declared.Total.{Total}
@@ -21,4 +21,4 @@ totalNumber v = unless (positive (v .w)) 38 (unless ((finite (v .«w_k») && fin
 unfoldable pub totalOf : Float → Float → Float → Float → Total
 totalOf w wk wkk wtau =
     let v : TotalVariance = record { w = w; «w_k» = wk; «w_kk» = wkk; «w_tau» = wtau } in
-    unless (eqb (totalNumber v) 0) (total.Refused (totalNumber v)) (total.At v)
+    refusing (totalNumber v) total.Refused (total.At v)

@@ -1,4 +1,5 @@
 -- The seven constraints g x <= h on x = (a, d, c): `constraints` of calibrate.rs, its h_scale, and what meets them. Definitions only.
+-- docs/METHOD.md, 'Five numbers, three of them linear'.
 use mathlib.Core.Bool.{Bool, true, _&&_}
 use mathlib.Core.List.{List, [], _∷_}
 use Prim.Native.Nat.{ℕ, _+_, _*_}

@@ -7,7 +7,7 @@ use Rattle.surface.specs.declared.types.Run.{Run}
 use Rattle.surface.specs.declared.types.ShortExpiryPolicy.{ShortExpiryPolicy}
 use Rattle.diagnostics.specs.declared.report.DiagnosticsConfig.{DiagnosticsConfig}
 use Rattle.diagnostics.specs.declared.report.Diagnosed.{Diagnosed}
-use Rattle.diagnostics.specs.Diagnostics.{Outcome, diagnoseOf}
+use Rattle.diagnostics.specs.Diagnostics.{WithRoom, diagnoseOf}
 use Rattle.port.specs.declared.answers.DiagnosedAnswer.{DiagnosedAnswer}
 use Rattle.port.specs.Answers.{policyOf, diagnosedAnswer, diagnosedFor, roomFor}
 
@@ -18,4 +18,4 @@ pub told :
 unfolding diagnosedFor roomFor
 told {a} {d} {zs} {p} run n ks taus config room h e l =
     let o : diagnoseOf run p ks taus config room ≡ diagnoseOf run (policyOf n) ks taus config room = ap (λ (q : ShortExpiryPolicy). diagnoseOf run q ks taus config room) h in
-    (l ∙ ap diagnosedAnswer (e .0 ∙ ap (λ (o : Outcome). o .answer) o), e .1 ∙ ap (λ (o : Outcome). o .room) o)
+    (l ∙ ap diagnosedAnswer (e .0 ∙ ap (λ (o : WithRoom). o .answer) o), e .1 ∙ ap (λ (o : WithRoom). o .room) o)

@@ -1,4 +1,5 @@
 -- The length √(x² + y²) of two values of binary64, rounded once, said over whole numbers. Definitions only.
+-- docs/ELEMENTARY.md, 'Square root and hypotenuse'.
 use Prim.Native.Nat.{ℕ, _+_}
 use mathlib.Core.Bool.{false, cond}
 use mathlib.Core.List.{List}

@@ -1,5 +1,6 @@
 -- What "nearest, ties to even" says, without a word on how the root is worked out: the root is compared, by squares, with the middle between the value and every other.
 -- `proofs/Nearest.antt` shows that `rootOf` and `hypotOf` are this and that nothing else is. Definitions only.
+-- docs/ELEMENTARY.md, 'Square root and hypotenuse'.
 use Prim.Native.Nat.{ℕ, suc, _+_, _*_, _%_, _^_, _≤_, _<_}
 use mathlib.Core.Path.{_≡_}
 use mathlib.Core.Bool.{false}

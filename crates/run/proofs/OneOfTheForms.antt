@@ -20,7 +20,7 @@ use Rattle.weights.specs.Weights.{scaledOf, allGood, cappedOf}
 use Rattle.records.specs.declared.FitConfig.{FitConfig}
 use Rattle.records.specs.declared.FitAnswer.{FitAnswer}
 use Rattle.records.specs.Settings.{settingsHold, sizesHold}
-use Rattle.entry.specs.Entry.{lengthsHold, allPass as columnsPass, spanOf, checksNumber, entryNumber}
+use Rattle.entry.specs.Entry.{lengthsHold, columnsPass, spanOf, checksNumber, entryNumber}
 use Rattle.records.specs.Observation.{passes}
 use Rattle.records.specs.Answer.{refusedWith}
 use Rattle.judge.specs.Judge.{sumsOf, paramsHold, rmseOf, rmseHolds}

@@ -16,7 +16,7 @@ use Rattle.bits.specs.Bytes.{u64At}
 use Rattle.laws.specs.Loop.{turns}
 use Rattle.laws.specs.Floats.{finite}
 use lib.Ieee.{ofBits, lt, le, eq}
-use Rattle.entry.specs.Entry.{lengthsHold, allPass as columnsPass, checksNumber, entryNumber}
+use Rattle.entry.specs.Entry.{lengthsHold, columnsPass, checksNumber, entryNumber}
 use Rattle.records.specs.Settings.{sizesHold, settingsHold}
 use Rattle.records.specs.Answer.{refusedWith}
 use Rattle.calibrate.specs.Fit.{fitOf}

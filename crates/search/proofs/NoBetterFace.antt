@@ -104,7 +104,7 @@ module _ (f : CellFn) (g : FaceFn) (top : ℕ) (from : ChosenFrom f g top) (p : 
         last = last;
         is-last = e;
         earlier = λ q l. before-last q (omega (arith, l, e));
-        refusing = λ r. refusal-none s last e (refusal f p k r);
+        faceless = λ r. refusal-none s last e (refusal f p k r);
         yielding = λ r. pass-yields last (yields f p k r .each last (omega (arith, e)));
         least =
             λ q i j t l h u.

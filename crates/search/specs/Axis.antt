@@ -1,4 +1,5 @@
 -- `linspace`: the n points of an axis from lo to hi. The last is hi itself, any other lo + (hi - lo) * i / last. Definitions only.
+-- docs/METHOD.md, 'The search over m and ln sigma'.
 use mathlib.Core.Bool.{cond}
 use Prim.Native.Nat.{ℕ, _-_, max}
 use lib.Dec.{eqb}

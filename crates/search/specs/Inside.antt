@@ -1,4 +1,5 @@
 -- A window that keeps within the domain of the search. Definitions only.
+-- docs/METHOD.md, 'The search over m and ln sigma'.
 use lib.Dec.{T}
 use lib.Ieee.{lt}
 use Rattle.search.specs.declared.Axis.{Axis}

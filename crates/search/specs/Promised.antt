@@ -1,4 +1,5 @@
 -- What is promised of a search, whatever its cells are: what it counts, which passes it makes, and that no face it tries is better than the one it chooses. Definitions only.
+-- docs/METHOD.md, 'What is promised of the minimum, and what is not'.
 use mathlib.Core.Path.{_≡_}
 use mathlib.Core.Logic.{_⊎_}
 use mathlib.Core.Bool.{true, false, _||_}
@@ -100,7 +101,7 @@ pub record Promised (f : CellFn) (g : FaceFn) (top : ℕ) (p : Plan) (s : Search
   -- in each pass before the last some face qualifies
   pub earlier : (q : ℕ) → q < last → Yields f g p q
   -- where the search refuses, no face of the last pass qualifies
-  pub refusing : s .refused ≡ true → Yields f g p last → ⊥
+  pub faceless : s .refused ≡ true → Yields f g p last → ⊥
   -- where it does not refuse, some face of the last pass qualifies
   pub yielding : s .refused ≡ false → Yields f g p last
   -- no face that qualifies, in any cell of any pass made, has a smaller objective than the one found

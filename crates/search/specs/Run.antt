@@ -1,4 +1,5 @@
 -- The search of the fit: its cell, that cell's faces, and its sizes. Definitions only.
+-- docs/METHOD.md, 'The search over m and ln sigma'.
 use mathlib.Core.Bool.{Bool, _&&_}
 use mathlib.Core.List.{List}
 use lib.Dec.{leb}

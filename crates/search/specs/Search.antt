@@ -1,4 +1,5 @@
 -- The search of `fit_slice`, over any cell function: passes over the grid of a window, and the moves of the window between them. Definitions only.
+-- docs/METHOD.md, 'The search over m and ln sigma'.
 use mathlib.Core.Bool.{Bool, true, false, not, _&&_, _||_, cond}
 use Prim.Native.Nat.{ℕ, _+_, _-_, _*_}
 use lib.Dec.{eqb, ltb}

@@ -11,7 +11,7 @@ use Rattle.laws.proofs.Choices.{cond-ind, number-no}
 use Rattle.slice.specs.declared.SviSlice.{SviSlice}
 use Rattle.slice.specs.declared.Level.the-variants as level
 use Rattle.slice.specs.declared.Evaluated.the-variants as evaluated
-use Rattle.slice.specs.Slice.{rangeNumber, three, lowestOf, leeOf, leeBound, domainNumber, numberOf, levelIfGood, minimumOf, leeSlopeOf, evalOf}
+use Rattle.slice.specs.Slice.{rangeNumber, threeFinite, lowestOf, leeOf, leeBound, domainNumber, numberOf, levelIfGood, minimumOf, leeSlopeOf, evalOf}
 
 module _ (s : SviSlice) where
   abbrev OneOf : ℕ → Type 0
@@ -38,7 +38,7 @@ module _ (s : SviSlice) where
   unfolding numberOf
   number =
       cond-ind OneOf (eqb (rangeNumber (s .«k_range»)) 0)
-      (cond-ind OneOf (three (s .tau) (s .a) (s .b) && three (s .rho) (s .m) (s .sigma)) domain-number (one-of 22 (omega arith) (omega arith)))
+      (cond-ind OneOf (threeFinite (s .tau) (s .a) (s .b) && threeFinite (s .rho) (s .m) (s .sigma)) domain-number (one-of 22 (omega arith) (omega arith)))
       range-number
 
   module _ (bad : numberOf s ≡ 0 → ⊥) where

@@ -1,9 +1,9 @@
 -- What the functions of a slice answer (svi.rs: `KRange`, `SviSlice`), on every input. Every operation is rounded once, in the order written. Definitions only.
+-- docs/METHOD.md, 'The slice'.
 use mathlib.Core.Bool.{Bool, _&&_, cond}
 use Prim.Native.Nat.{ℕ}
-use lib.Dec.{eqb}
 use lib.Ieee.{Float, lt, le}
-use Rattle.laws.specs.Choice.{unless}
+use Rattle.laws.specs.Choice.{unless, refusing}
 use Rattle.laws.specs.Floats.{_+f_, _-f_, _*f_, _/f_, +0, one, two, absOf, finite, positive, maxOf}
 use Rattle.roots.specs.Root.{rootOf}
 use Rattle.roots.specs.Hypot.{hypotOf}
@@ -34,13 +34,13 @@ rangeNumber r = unless ((finite (r .lo) && finite (r .hi)) && le (r .lo) (r .hi)
 unfoldable pub rangedOf : Float → Float → Ranged
 rangedOf lo hi =
     let r : KRange = record { lo = lo; hi = hi } in
-    unless (eqb (rangeNumber r) 0) (ranged.Refused (rangeNumber r)) (ranged.Range r)
+    refusing (rangeNumber r) ranged.Refused (ranged.Range r)
 
 -- ---- the tests
 
 -- three numbers, all finite
-abbrev pub three : Float → Float → Float → Bool
-three x y z = (finite x && finite y) && finite z
+abbrev pub threeFinite : Float → Float → Float → Bool
+threeFinite x y z = (finite x && finite y) && finite z
 
 -- the smallest total variance, a + b sigma sqrt(1 - rho^2)
 unfoldable pub lowestOf : SviSlice → Float
@@ -67,14 +67,14 @@ domainNumber s =
 -- 21, then the seven tests of `SviSlice::new` in order; 0 for a slice that passes
 unfoldable pub numberOf : SviSlice → ℕ
 numberOf s =
-    unless (eqb (rangeNumber (s .«k_range»)) 0) (rangeNumber (s .«k_range»))
-    (unless (three (s .tau) (s .a) (s .b) && three (s .rho) (s .m) (s .sigma)) 22 (domainNumber s))
+    refusing (rangeNumber (s .«k_range»)) (λ n. n)
+    (unless (threeFinite (s .tau) (s .a) (s .b) && threeFinite (s .rho) (s .m) (s .sigma)) 22 (domainNumber s))
 
 -- `SviSlice::new`; a range that fails is 21 here too
 unfoldable pub madeOf : Float → Float → Float → Float → Float → Float → KRange → Made
 madeOf tau a b rho m sigma range =
     let s : SviSlice = record { tau = tau; a = a; b = b; rho = rho; m = m; sigma = sigma; «k_range» = range } in
-    unless (eqb (numberOf s) 0) (made.Refused (numberOf s)) (made.Slice s)
+    refusing (numberOf s) made.Refused (made.Slice s)
 
 -- ---- evaluation
 
@@ -115,7 +115,7 @@ valuesOf s k = valuesAt s (k -f s .m) (hypotOf (k -f s .m) (s .sigma))
 -- 30, a result that is not finite; 31, no curvature where b > 0
 unfoldable pub judgedOf : Float → Values → Evaluated
 judgedOf b v =
-    unless (three (v .w) (v .«w_k») (v .«w_kk»)) (evaluated.Refused 30)
+    unless (threeFinite (v .w) (v .«w_k») (v .«w_kk»)) (evaluated.Refused 30)
     (cond (lt +0 b && le (v .«w_kk») +0) (evaluated.Refused 31) (evaluated.At v))
 
 -- of a slice that has passed its tests: 29, k; then as judged
@@ -125,7 +125,7 @@ evalRaw s k = unless (finite k) (evaluated.Refused 29) (judgedOf (s .b) (valuesO
 -- ---- the same of a slice that a caller may have written: 21 to 28 first
 
 unfoldable pub levelIfGood : SviSlice → Float → Level
-levelIfGood s v = unless (eqb (numberOf s) 0) (level.Refused (numberOf s)) (level.Value v)
+levelIfGood s v = refusing (numberOf s) level.Refused (level.Value v)
 
 -- `minimum`
 unfoldable pub minimumOf : SviSlice → Level
@@ -137,7 +137,7 @@ leeSlopeOf s = levelIfGood s (leeOf s)
 
 -- `eval`
 unfoldable pub evalOf : SviSlice → Float → Evaluated
-evalOf s k = unless (eqb (numberOf s) 0) (evaluated.Refused (numberOf s)) (evalRaw s k)
+evalOf s k = refusing (numberOf s) evaluated.Refused (evalRaw s k)
 
 -- ---- where there is no slice
 

@@ -1,6 +1,6 @@
 // Raw SVI slices by value: the five numbers of a slice travel with tau and its k range.
 ghost use mathlib.Core.Path.{_≡_};
-ghost use Rattle.slice.specs.Slice.{holdsK, rangeNumber, rangedOf, lowestOf, leeOf, domainNumber, numberOf, madeOf, wingOf, acrossOf, alongOf, valuesOf, judgedOf, evalRaw, minimumOf, leeSlopeOf, evalOf, three};
+ghost use Rattle.slice.specs.Slice.{holdsK, rangeNumber, rangedOf, lowestOf, leeOf, domainNumber, numberOf, madeOf, wingOf, acrossOf, alongOf, valuesOf, judgedOf, evalRaw, minimumOf, leeSlopeOf, evalOf, threeFinite};
 
 #[repr(C)]
 pub struct KRange {
@@ -81,7 +81,7 @@ impl KRange {
 }
 
 fn three_finite(x: f64, y: f64, z: f64) -> bool
-    ensures { λ r. ⌜ r ≡ three x y z ⌝ }
+    ensures { λ r. ⌜ r ≡ threeFinite x y z ⌝ }
 {
     bits::is_finite(x) & bits::is_finite(y) & bits::is_finite(z)
 }

@@ -12,7 +12,7 @@ use lib.Ieee.{Float, nan}
 use Rattle.laws.specs.Floats.{_+f_, _-f_, _*f_, _/f_, +0, at, finite}
 use Rattle.laws.proofs.Choices.{false-true}
 use Rattle.solver.specs.declared.Solved.{Solved}
-use Rattle.solver.specs.Solve.{entry, refused, rightSum, placed, backRowOf, backOf}
+use Rattle.solver.specs.Solve.{entry, refused, rightSum, withValue, backRowOf, backOf}
 use Rattle.solver.specs.Rows.{Room, room, spot, tailIn, valueIn, backRowIn, backIn}
 use Rattle.solver.proofs.Views.{Stepped, Found}
 use Rattle.solver.proofs.Segments.{for-both}
@@ -60,7 +60,7 @@ module _ (n o : ℕ) (m rhs t : List Float) (six : n + o ≡ 6) (st : Stepped n 
 
   -- one row more
   one-row : (row : ℕ) (s : Solved) (u : Room) → row < n → Both n o (row + 1) s u → Both n o row (backRowOf n m rhs row s) (backRowIn t (row + o) u)
-  unfolding backRowOf backRowIn placed
+  unfolding backRowOf backRowIn withValue
   one-row row s u l p = go (s .ok) (u .ok) refl refl
     where
       v : Float
@@ -80,7 +80,7 @@ module _ (n o : ℕ) (m rhs t : List Float) (six : n + o ≡ 6) (st : Stepped n 
       found false f e h =
           record { same = sym f ∙ ap finite e; plain = length-replicate 6 +0; rows = length-set (u .m) (row + o) w ∙ p .rows; values = λ k. false-true k }
 
-      go : (b c : Bool) → s .ok ≡ b → u .ok ≡ c → Both n o row (cond b (placed row v s) s) (cond c (room (finite w) (set (u .m) (row + o) w)) u)
+      go : (b c : Bool) → s .ok ≡ b → u .ok ≡ c → Both n o row (cond b (withValue row v s) s) (cond c (room (finite w) (set (u .m) (row + o) w)) u)
       go true true h k = found (finite v) refl (same-value row (s .x) (u .m) l (p .values h)) h
       go false false h k = record { same = p .same; plain = p .plain; rows = p .rows; values = λ z. false-true (sym h ∙ z) }
       go true false h k = false-true (sym k ∙ sym (p .same) ∙ h)

@@ -37,7 +37,7 @@ use Rattle.solver.specs.Solve.{
   afterColumns,
   eliminatedOf,
   rightSum,
-  placed,
+  withValue,
   backRowOf,
   backOf,
   backIf,
@@ -212,7 +212,7 @@ over-nan x y h = ap (λ (y : Float). finite (x /f y)) (is-nan y h) ∙ go x
 
 -- the row of the NaN has no value
 row-stops : (n : ℕ) (m rhs : List Float) (row : ℕ) (t : Solved) → NanAt (row * 6 + row) m → backRowOf n m rhs row t .ok ≡ false
-unfolding backRowOf placed
+unfolding backRowOf withValue
 row-stops n m rhs row t h =
     cond-test (λ (t : Solved). t .ok ≡ false) (t .ok)
     (λ stands. sym (ap (λ (t : Solved). t .ok) (if-false (record { ok = true; x = set (t .x) row _ }) (over-nan (at rhs row -f rightSum n m (t .x) row) (entry m row row) h) refl))) (λ fallen. fallen)

@@ -14,7 +14,7 @@ use Rattle.laws.specs.Floats.{+0, _-f_, _*f_, _/f_, at, finite, positive}
 use Rattle.laws.proofs.Loops.{for-keeps}
 use Rattle.laws.proofs.Choices.{cond-ind, false-true}
 use Rattle.solver.specs.declared.Solved.{Solved}
-use Rattle.solver.specs.Solve.{System, refused, standing, entry, rightSum, placed, backRowOf, backOf, backIf, eliminatedOf, solvedAtScale, scaleOf, solveOf}
+use Rattle.solver.specs.Solve.{System, refused, standing, entry, rightSum, withValue, backRowOf, backOf, backIf, eliminatedOf, solvedAtScale, scaleOf, solveOf}
 
 -- the six numbers of an answer in n unknowns
 pub record Sound (n : ℕ) (t : Solved) : Type 0 where
@@ -49,8 +49,8 @@ set-sound n row v t r s f p =
         go true e = rw (eqb-true i row e) (ap finite (getD-set-same (t .x) row v nan (omega (arith, p .six))) ∙ f)
         go false e = ap finite (getD-set-other (t .x) row i v nan (eqb-false i row e)) ∙ p .finites i l
 
-placed-sound : (n row : ℕ) (v : Float) (t : Solved) → row < n → row < 6 → Sound n t → Sound n (placed row v t)
-unfolding placed
+placed-sound : (n row : ℕ) (v : Float) (t : Solved) → row < n → row < 6 → Sound n t → Sound n (withValue row v t)
+unfolding withValue
 placed-sound n row v t r s p = go (finite v) refl
   where
     go : (b : Bool) → finite v ≡ b → Sound n (cond b (record { ok = true; x = set (t .x) row v }) refused)

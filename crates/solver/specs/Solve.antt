@@ -1,5 +1,6 @@
 -- `solve_linear` of calibrate.rs: Gaussian elimination with partial pivoting on the first n rows and columns of a 6 by 6 matrix, row by row in one list,
 -- and the substitution back. Every operation is rounded once, in the order written. Definitions only.
+-- docs/METHOD.md, 'One cell: every face of the polytope'.
 use mathlib.Core.Bool.{Bool, true, false, _&&_, _||_, cond}
 use mathlib.Core.List.{List}
 use Prim.Native.Nat.{ℕ, _+_, _-_, _*_}
@@ -111,11 +112,11 @@ unfoldable pub rightSum : ℕ → List Float → List Float → ℕ → Float
 rightSum n m x row = for (row + 1) n (λ j tail. tail +f entry m row j *f at x j) +0
 
 -- a value that is not finite refuses
-unfoldable pub placed : ℕ → Float → Solved → Solved
-placed row value t = unless (finite value) refused (record { ok = true; x = set (t .x) row value })
+unfoldable pub withValue : ℕ → Float → Solved → Solved
+withValue row value t = unless (finite value) refused (record { ok = true; x = set (t .x) row value })
 
 unfoldable pub backRowOf : ℕ → List Float → List Float → ℕ → Solved → Solved
-backRowOf n m rhs row t = cond (t .ok) (placed row ((at rhs row -f rightSum n m (t .x) row) /f entry m row row) t) t
+backRowOf n m rhs row t = cond (t .ok) (withValue row ((at rhs row -f rightSum n m (t .x) row) /f entry m row row) t) t
 
 unfoldable pub backOf : ℕ → List Float → List Float → Solved
 backOf n m rhs = for 0 n (λ k t. backRowOf n m rhs (n - 1 - k) t) (record { ok = true; x = replicate 6 +0 })

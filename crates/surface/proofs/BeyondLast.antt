@@ -22,7 +22,7 @@ use Rattle.laws.proofs.Signs.{Signed, signed-no-nan, round-signed, mul-signed}
 use Rattle.slice.specs.declared.SviSlice.{SviSlice}
 use Rattle.slice.specs.declared.Evaluated.{Evaluated}
 use Rattle.slice.specs.declared.Evaluated.the-variants as evaluated
-use Rattle.slice.specs.Slice.{three, valuesOf, judgedOf, evalRaw}
+use Rattle.slice.specs.Slice.{threeFinite, valuesOf, judgedOf, evalRaw}
 use Rattle.point.specs.declared.Total.the-variants as total
 use Rattle.point.specs.declared.TotalVariance.{TotalVariance}
 use Rattle.point.specs.Point.{pointNumber, totalNumber, totalOf}
@@ -82,7 +82,7 @@ eval-no : (s : SviSlice) (k : Float) → evalRaw s k ≡ evaluated.Refused 37 �
 unfolding evalRaw judgedOf
 eval-no s k =
     cond-ind No (finite k)
-    (cond-ind No (three (valuesOf s k .w) (valuesOf s k .«w_k») (valuesOf s k .«w_kk»))
+    (cond-ind No (threeFinite (valuesOf s k .w) (valuesOf s k .«w_k») (valuesOf s k .«w_kk»))
     (cond-ind No (lt +0 (s .b) && le (valuesOf s k .«w_kk») +0) (λ e. let z : _≡_ {A = ℕ} 31 37 = cc in omega (arith, z)) (λ e. let z : _≡_ {A = ℕ} 0 1 = cc in omega arith))
     (λ e. let z : _≡_ {A = ℕ} 30 37 = cc in omega (arith, z)))
     (λ e. let z : _≡_ {A = ℕ} 29 37 = cc in omega (arith, z))

@@ -16,12 +16,12 @@ use Rattle.surface.specs.declared.types.Bracket.the-variants.{Segment}
 use Rattle.surface.specs.Runs.{tausOf, checkRun}
 use Rattle.surface.specs.Axis.{gridNumber}
 use Rattle.surface.specs.Lookup.{tolerancesOf, bracketOf}
-use Rattle.surface.specs.Surface.{tolsOf, bracketIn, entryNumber}
-use Rattle.surface.specs.Inner.{Inside}
+use Rattle.surface.specs.Surface.{tolsOf, bracketIn, surfaceGridNumber}
+use Rattle.surface.specs.Inner.{InArray}
 
 -- the positions of a segment
-pub places : (b : Bracket) {lo hi : ℕ} {x : Float} → b ≡ Segment lo hi x → Inside b → (lo < 32) × (hi < 32)
-places b e i = subst Inside e i
+pub places : (b : Bracket) {lo hi : ℕ} {x : Float} → b ≡ Segment lo hi x → InArray b → (lo < 32) × (hi < 32)
+places b e i = subst InArray e i
 
 few-by : (n m : ℕ) (b : Bool) → ltb 32 n ≡ b → cond b 11 m ≡ 0 → n ≤ 32
 few-by n m true e h = absurd (omega (arith, h))
@@ -37,8 +37,8 @@ no-refusal true m h = absurd (omega (arith, h))
 no-refusal false m h = h
 
 -- so has one that passes beside two axes
-pub entry-few : (run : Run) (k tau : List Float) {r : ℕ} → r ≡ entryNumber run k tau → r ≡ 0 → run .count ≤ 32
-unfolding entryNumber
+pub entry-few : (run : Run) (k tau : List Float) {r : ℕ} → r ≡ surfaceGridNumber run k tau → r ≡ 0 → run .count ≤ 32
+unfolding surfaceGridNumber
 entry-few run k tau {r} e z = few run (passed-number (checkRun run) (gridNumber k tau) (no-refusal (ltb 64 (length k) || ltb 64 (length tau)) _ (sym e ∙ z)) .0)
 
 -- what the code reckons of a run, its taus and then its tolerances, is what the definitions say

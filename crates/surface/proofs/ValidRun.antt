@@ -18,7 +18,7 @@ use Rattle.laws.proofs.Loops.{for-ind, turns-ind, below-next}
 use Rattle.laws.proofs.Order.{lt-or}
 use Rattle.laws.proofs.Rooms.{filled-at}
 use Rattle.slice.specs.declared.SviSlice.{SviSlice}
-use Rattle.slice.specs.Slice.{three, rangeNumber, domainNumber, numberOf}
+use Rattle.slice.specs.Slice.{threeFinite, rangeNumber, domainNumber, numberOf}
 use Rattle.surface.specs.declared.types.Run.{Run}
 use Rattle.surface.specs.Runs.{sliceAt, tausOf, badTurn, firstBad, riseTurn, risesOf, checkRun}
 use Rattle.surface.specs.Lookup.{toleranceOf, tolerancesOf}
@@ -40,7 +40,7 @@ pub tau-positive : (s : SviSlice) → numberOf s ≡ 0 → T (positive (s .tau))
 unfolding numberOf domainNumber
 tau-positive s h =
     let range = passed-number (rangeNumber (s .«k_range»)) _ h in
-    let all = passed-one (three (s .tau) (s .a) (s .b) && three (s .rho) (s .m) (s .sigma)) 22 _ (λ e. omega (arith, e)) (range .1) in
+    let all = passed-one (threeFinite (s .tau) (s .a) (s .b) && threeFinite (s .rho) (s .m) (s .sigma)) 22 _ (λ e. omega (arith, e)) (range .1) in
     let finite-tau : finite (s .tau) ≡ true = both _ _ (both _ _ (both _ _ (all .0) .0) .0) .0 in
     let above = passes (le (s .tau) +0) 23 _ (λ e. omega (arith, e)) (all .1) in
     positive-of (s .tau) finite-tau

@@ -1,4 +1,5 @@
 -- The axes of a diagnostic grid (diagnostics.rs: `DiagnosticGrid::new`). Definitions only.
+-- docs/METHOD.md, 'Surfaces and diagnostics'.
 use mathlib.Core.Bool.{Bool, true, false, _&&_, _||_, cond}
 use mathlib.Core.List.{List}
 use Prim.Native.Nat.{ℕ, _-_}
@@ -26,7 +27,7 @@ allPositive v = for 0 (length v) (positiveTurn v) true
 
 -- 40, the k axis; 41, the tau axis; 0 for a good grid
 unfoldable pub gridNumber : List Float → List Float → ℕ
-gridNumber k tau = unless (risingOf k) 40 (unless (risingOf tau && allPositive tau) 41 0)
+gridNumber ks taus = unless (risingOf ks) 40 (unless (risingOf taus && allPositive taus) 41 0)
 
 abbrev pub heldTurn : List Float → Float → ℕ → Bool → Bool
 heldTurn v x i found = found || eqb (toBits binary64 (at v i)) (toBits binary64 x)

@@ -18,7 +18,7 @@ abbrev pub pushed : Run → SviSlice → Run
 pushed run x = record { count = run .count + 1; recs = keptIf (ltb (run .count) 32) (run .recs) (run .count) x }
 
 -- a segment's positions are those of an array of 32
-abbrev pub Inside : Bracket → Type 0
-Inside Short = Unit {0}
-Inside (Segment lo hi x) = (lo < 32) × (hi < 32)
-Inside (Refused n) = Unit {0}
+abbrev pub InArray : Bracket → Type 0
+InArray Short = Unit {0}
+InArray (Segment lo hi x) = (lo < 32) × (hi < 32)
+InArray (Refused n) = Unit {0}

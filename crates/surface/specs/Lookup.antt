@@ -1,11 +1,12 @@
 -- The lookup of a tau among the nodes of a surface (svi.rs: `node_tolerance`, `bracket`). The tolerances are handed in. Definitions only.
+-- docs/METHOD.md, 'Surfaces and diagnostics'.
 use mathlib.Core.Bool.{Bool, cond}
 use mathlib.Core.List.{List}
 use Prim.Native.Nat.{ℕ, _+_, _-_}
 use lib.Dec.{eqb, ltb}
 use lib.ListN.{set, replicate}
 use lib.Ieee.{Float, lt, le}
-use Rattle.laws.specs.Choice.{unless}
+use Rattle.laws.specs.Choice.{refusing}
 use Rattle.laws.specs.Floats.{_-f_, _*f_, _/f_, f64, +0, quarter, one, at, absOf, minOf}
 use Rattle.laws.specs.Loop.{for, first}
 use Rattle.point.specs.Point.{pointNumber}
@@ -82,7 +83,7 @@ lookupOf taus tols n policy tau =
 unfoldable pub bracketOf : List Float → List Float → ℕ → ShortExpiryPolicy → Float → Float → Bracket
 bracketOf taus tols n policy k tau =
     cond (ltb 32 n) (Refused 11)
-    (unless (eqb (pointNumber k tau) 0) (Refused (pointNumber k tau))
+    (refusing (pointNumber k tau) Refused
     (lookupOf taus tols n policy tau))
 
 -- the policy of a caller who names none

@@ -1,11 +1,12 @@
 -- A lent run of slice records, and the tests that make it a surface (svi.rs: `SviSurface::new`, after each record's own tests). Definitions only.
+-- docs/METHOD.md, 'Surfaces and diagnostics'.
 use mathlib.Core.Bool.{Bool, true, _&&_, cond}
 use mathlib.Core.List.{List, [], _∷_}
 use Prim.Native.Nat.{ℕ, zero, suc, _-_}
 use lib.Dec.{eqb, ltb}
 use lib.ListN.{getD, set, length, replicate}
 use lib.Ieee.{Float, nan, lt}
-use Rattle.laws.specs.Choice.{unless}
+use Rattle.laws.specs.Choice.{unless, refusing}
 use Rattle.laws.specs.Floats.{+0, at}
 use Rattle.laws.specs.Loop.{for}
 use Rattle.slice.specs.declared.SviSlice.{SviSlice}
@@ -59,6 +60,6 @@ risesOf taus n = for 1 n (riseTurn taus) true
 unfoldable pub checkRun : Run → ℕ
 checkRun run =
     cond (ltb 32 (run .count)) 11
-    (unless (eqb (firstBad (run .recs) (run .count)) 0) (firstBad (run .recs) (run .count))
+    (refusing (firstBad (run .recs) (run .count)) (λ n. n)
     (cond (ltb (run .count) 2) 32
     (unless (risesOf (tausOf (run .recs)) (run .count)) 33 0)))

@@ -1,11 +1,12 @@
 -- What a surface answers (svi.rs: `total_variance_at`, `region`, `covers_nodes`). Every operation is rounded once, in the order written. Definitions only.
+-- docs/METHOD.md, 'Surfaces and diagnostics'.
 use mathlib.Core.Bool.{Bool, true, false, _&&_, _||_, cond}
 use mathlib.Core.List.{List}
 use Prim.Native.Nat.{ℕ}
-use lib.Dec.{eqb, ltb}
+use lib.Dec.{ltb}
 use lib.ListN.{length}
 use lib.Ieee.{Float}
-use Rattle.laws.specs.Choice.{unless}
+use Rattle.laws.specs.Choice.{refusing}
 use Rattle.laws.specs.Floats.{_+f_, _-f_, _*f_, _/f_, one}
 use Rattle.laws.specs.Loop.{for}
 use Rattle.slice.specs.declared.SviSlice.{SviSlice}
@@ -97,32 +98,32 @@ bracketIn run policy k tau = bracketOf (tausOf (run .recs)) (tolsOf run) (run .c
 
 -- `bracket`
 unfoldable pub bracketRun : Run → ShortExpiryPolicy → Float → Float → Bracket
-bracketRun run policy k tau = unless (eqb (checkRun run) 0) (Refused (checkRun run)) (bracketIn run policy k tau)
+bracketRun run policy k tau = refusing (checkRun run) Refused (bracketIn run policy k tau)
 
 -- `region`
 unfoldable pub regionRun : Run → ShortExpiryPolicy → Float → Float → Region
-regionRun run policy k tau = unless (eqb (checkRun run) 0) (region.Refused (checkRun run)) (regionIn (run .recs) (bracketIn run policy k tau) k)
+regionRun run policy k tau = refusing (checkRun run) region.Refused (regionIn (run .recs) (bracketIn run policy k tau) k)
 
 -- `total_variance`
 unfoldable pub totalRun : Run → ShortExpiryPolicy → Float → Float → Total
 totalRun run policy k tau =
-    unless (eqb (checkRun run) 0) (total.Refused (checkRun run))
+    refusing (checkRun run) total.Refused
     (varianceAt (run .recs) (tausOf (run .recs)) (tolsOf run) (run .count) policy k tau)
 
 -- ---- a grid that holds every node
 
 abbrev pub allHeldTurn : List SviSlice → List Float → ℕ → Bool → Bool
-allHeldTurn recs tau i ok = ok && heldOf tau (sliceAt recs i .tau)
+allHeldTurn recs taus i ok = ok && heldOf taus (sliceAt recs i .tau)
 
 unfoldable pub allHeld : List SviSlice → ℕ → List Float → Bool
-allHeld recs n tau = for 0 n (allHeldTurn recs tau) true
+allHeld recs n taus = for 0 n (allHeldTurn recs taus) true
 
 -- 11, an axis over 64; the surface's numbers; 40 and 41
-unfoldable pub entryNumber : Run → List Float → List Float → ℕ
-entryNumber run k tau =
-    cond (ltb 64 (length k) || ltb 64 (length tau)) 11
-    (unless (eqb (checkRun run) 0) (checkRun run)
-    (gridNumber k tau))
+unfoldable pub surfaceGridNumber : Run → List Float → List Float → ℕ
+surfaceGridNumber run ks taus =
+    cond (ltb 64 (length ks) || ltb 64 (length taus)) 11
+    (refusing (checkRun run) (λ n. n)
+    (gridNumber ks taus))
 
 abbrev pub coveredBy : Bool → Covered
 coveredBy true = covered.All
@@ -130,4 +131,4 @@ coveredBy false = covered.NotAll
 
 -- `covers_nodes`: the tau axis holds the bits of every node
 unfoldable pub coversRun : Run → List Float → List Float → Covered
-coversRun run k tau = unless (eqb (entryNumber run k tau) 0) (covered.Refused (entryNumber run k tau)) (coveredBy (allHeld (run .recs) (run .count) tau))
+coversRun run ks taus = refusing (surfaceGridNumber run ks taus) covered.Refused (coveredBy (allHeld (run .recs) (run .count) taus))

@@ -1,8 +1,8 @@
 // What a tested run of slices answers: the region and the total variance of a point, and whether a grid holds every node.
 ghost use mathlib.Core.Path.{_≡_};
 ghost use Prim.Native.Nat.{_≤_};
-ghost use Rattle.surface.specs.Surface.{bothHold, regionBy, regionIn, mixedOf, shortScaled, blendOf, shortIn, segmentOf, shortFrom, varianceIn, varianceAt, bracketRun, regionRun, totalRun, allHeld, entryNumber, coveredBy, coversRun};
-ghost use Rattle.surface.specs.Inner.{Inside};
+ghost use Rattle.surface.specs.Surface.{bothHold, regionBy, regionIn, mixedOf, shortScaled, blendOf, shortIn, segmentOf, shortFrom, varianceIn, varianceAt, bracketRun, regionRun, totalRun, allHeld, surfaceGridNumber, coveredBy, coversRun};
+ghost use Rattle.surface.specs.Inner.{InArray};
 use crate::types::Bracket;
 use crate::types::Covered;
 use crate::types::Region;
@@ -34,7 +34,7 @@ fn region_by(yes: bool) -> Region
 }
 
 fn region_in(recs: [SviSlice; 32], b: Bracket, k: f64) -> Region
-    requires { ⌜ Inside b ⌝ }
+    requires { ⌜ InArray b ⌝ }
     ensures { λ r. ⌜ r ≡ regionIn recs b k ⌝ }
 {
     match b {
@@ -102,7 +102,7 @@ fn short_at(first: SviSlice, k: f64, tau: f64) -> Total
 }
 
 fn variance_in(recs: [SviSlice; 32], b: Bracket, k: f64, tau: f64) -> Total
-    requires { ⌜ Inside b ⌝ }
+    requires { ⌜ InArray b ⌝ }
     ensures { λ r. ⌜ r ≡ varianceIn recs b k tau ⌝ }
 {
     match b {
@@ -196,7 +196,7 @@ fn all_held(recs: [SviSlice; 32], n: usize, tau: &[f64]) -> bool
 
 // 11, the surface's numbers, then 40 and 41; or 0.
 pub fn entry_number(run: Run, k: &[f64], tau: &[f64]) -> u32
-    ensures { λ r. ⌜ r ≡ entryNumber run (now (k .entry)) (now (tau .entry)) ⌝ }
+    ensures { λ r. ⌜ r ≡ surfaceGridNumber run (now (k .entry)) (now (tau .entry)) ⌝ }
 {
     let over = (64 < k.len()) | (64 < tau.len());
     if over {

@@ -2,7 +2,7 @@
 ghost use mathlib.Core.Path.{_≡_};
 ghost use Prim.Native.Nat.{_<_, _≤_};
 ghost use Rattle.surface.specs.Lookup.{beforeOf, afterOf, toleranceOf, tolerancesOf, nearOf, nodeOf, beyondOf, onNode, shortOf, insideOf, lookupOf, bracketOf};
-ghost use Rattle.surface.specs.Inner.{Inside};
+ghost use Rattle.surface.specs.Inner.{InArray};
 use crate::types::Bracket;
 use crate::types::ShortExpiryPolicy;
 
@@ -90,7 +90,7 @@ fn beyond(taus: &[f64; 32], n: usize, tau: f64) -> usize
 
 fn on_node(j: usize) -> Bracket
     requires { ⌜ j < 32 ⌝ }
-    ensures { λ r. ⌜ (r ≡ onNode j) × Inside r ⌝ }
+    ensures { λ r. ⌜ (r ≡ onNode j) × InArray r ⌝ }
 {
     if j == 0 {
         return Bracket::Segment {
@@ -107,7 +107,7 @@ fn on_node(j: usize) -> Bracket
 }
 
 fn short_of(policy: ShortExpiryPolicy) -> Bracket
-    ensures { λ r. ⌜ (r ≡ shortOf policy) × Inside r ⌝ }
+    ensures { λ r. ⌜ (r ≡ shortOf policy) × InArray r ⌝ }
 {
     match policy {
         ShortExpiryPolicy::Reject => Bracket::Refused(36),
@@ -117,7 +117,7 @@ fn short_of(policy: ShortExpiryPolicy) -> Bracket
 
 fn inside(taus: &[f64; 32], n: usize, tau: f64, h: usize) -> Bracket
     requires { ⌜ (n ≤ 32) × (1 ≤ h) ⌝ }
-    ensures { λ r. ⌜ (r ≡ insideOf (now (taus .entry)) n tau h) × Inside r ⌝ }
+    ensures { λ r. ⌜ (r ≡ insideOf (now (taus .entry)) n tau h) × InArray r ⌝ }
 {
     if h < n {
         let l = h - 1;
@@ -141,7 +141,7 @@ fn lookup(
     tau: f64,
 ) -> Bracket
     requires { ⌜ n ≤ 32 ⌝ }
-    ensures { λ r. ⌜ (r ≡ lookupOf (now (taus .entry)) (now (tols .entry)) n policy tau) × Inside r ⌝ }
+    ensures { λ r. ⌜ (r ≡ lookupOf (now (taus .entry)) (now (tols .entry)) n policy tau) × InArray r ⌝ }
 {
     let j = node(taus, tols, n, tau);
     if j < n {
@@ -162,7 +162,7 @@ pub(crate) fn bracket_at(
     k: f64,
     tau: f64,
 ) -> Bracket
-    ensures { λ r. ⌜ (r ≡ bracketOf (now (taus .entry)) (now (tols .entry)) n policy k tau) × Inside r ⌝ }
+    ensures { λ r. ⌜ (r ≡ bracketOf (now (taus .entry)) (now (tols .entry)) n policy k tau) × InArray r ⌝ }
 {
     if 32 < n {
         return Bracket::Refused(11);

@@ -6,7 +6,7 @@ use Rattle.slice.specs.declared.SviSlice.{SviSlice}
 use Rattle.surface.specs.Axis.{gridNumber, heldOf, risingOf}
 use Rattle.surface.specs.Lookup.{defaultPolicy, tolerancesOf}
 use Rattle.surface.specs.Runs.{checkRun, runOf, tausOf}
-use Rattle.surface.specs.Surface.{bracketRun, coversRun, entryNumber, regionRun, totalRun, varianceAt}
+use Rattle.surface.specs.Surface.{bracketRun, coversRun, regionRun, surfaceGridNumber, totalRun, varianceAt}
 use Rattle.surface.specs.declared.types.Bracket.{Bracket}
 use Rattle.surface.specs.declared.types.Covered.{Covered}
 use Rattle.surface.specs.declared.types.Region.{Region}
@@ -34,7 +34,7 @@ pub total-variance-run : (run : Run) (policy : ShortExpiryPolicy) (k : Float) (t
 total-variance-run run policy k tau h₁ h₂ = settled h₁ h₂
 
 -- surface::entry_number
-pub entry-number : (run : Run) (k : List Float) (tau : List Float) {r₁ r₂ : ℕ} → (r₁ ≡ entryNumber run k tau) → (r₂ ≡ entryNumber run k tau) → r₁ ≡ r₂
+pub entry-number : (run : Run) (k : List Float) (tau : List Float) {r₁ r₂ : ℕ} → (r₁ ≡ surfaceGridNumber run k tau) → (r₂ ≡ surfaceGridNumber run k tau) → r₁ ≡ r₂
 entry-number run k tau h₁ h₂ = settled h₁ h₂
 
 -- surface::covers_run

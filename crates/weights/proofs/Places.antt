@@ -61,57 +61,57 @@ unfolding insertOf
 insert-length x [] = refl
 insert-length x (y ∷ ys) = ap suc (insert-length (greater x y) ys)
 
-sort-length : (ws : List Float) → length (sortOf ws) ≡ length ws
+sort-length : (ts : List Float) → length (sortOf ts) ≡ length ts
 unfolding sortOf
 sort-length [] = refl
-sort-length (w ∷ ws) = insert-length w (sortOf ws) ∙ ap suc (sort-length ws)
+sort-length (w ∷ ts) = insert-length w (sortOf ts) ∙ ap suc (sort-length ts)
 
 abbrev pub Sorting : List Float → List Float → ℕ → List Float → Type 0
-Sorting ws room m a = (m ≤ length ws) × (a ≡ sortOf (drop (length ws - m) ws) ++ drop m room)
+Sorting ts room m a = (m ≤ length ts) × (a ≡ sortOf (drop (length ts - m) ts) ++ drop m room)
 
-pub sort-start : (ws room : List Float) → Sorting ws room 0 room
+pub sort-start : (ts room : List Float) → Sorting ts room 0 room
 unfolding sortOf
-sort-start ws room = (omega arith, rw (sub-zero (length ws), drop-length ws))
+sort-start ts room = (omega arith, rw (sub-zero (length ts), drop-length ts))
 
 pub sort-next :
-    (ws room a next : List Float) (m : ℕ) → m < length ws → Sorting ws room m a → next ≡ insertOf (at ws (length ws - 1 - m)) (take m a) ++ drop (m + 1) a
-    → Sorting ws room (m + 1) next
+    (ts room a next : List Float) (m : ℕ) → m < length ts → Sorting ts room m a → next ≡ insertOf (at ts (length ts - 1 - m)) (take m a) ++ drop (m + 1) a
+    → Sorting ts room (m + 1) next
 unfolding sortOf
-sort-next ws room a next m h inv e =
-    let i = length ws - 1 - m in
-    let x : length ws - (m + 1) ≡ i = omega arith in
-    let y : length ws - m ≡ suc i = omega arith in
-    let s = sortOf (drop (length ws - m) ws) in
-    let long : length s ≡ m = sort-length (drop (length ws - m) ws) ∙ length-drop (length ws - m) ws ∙ omega arith in
+sort-next ts room a next m h inv e =
+    let i = length ts - 1 - m in
+    let x : length ts - (m + 1) ≡ i = omega arith in
+    let y : length ts - m ≡ suc i = omega arith in
+    let s = sortOf (drop (length ts - m) ts) in
+    let long : length s ≡ m = sort-length (drop (length ts - m) ts) ∙ length-drop (length ts - m) ts ∙ omega arith in
     let front : take m a ≡ s = ap (take m) (inv .1) ∙ take-at s (drop m room) m long in
     let back : drop (m + 1) a ≡ drop (m + 1) room = drop-more m a room (ap (drop m) (inv .1) ∙ drop-at s (drop m room) m long) in
-    let one : insertOf (at ws i) s ≡ sortOf (drop (length ws - (m + 1)) ws) = rw (x, y, drop-cons ws i nan (omega arith)) in
-    (omega arith, e ∙ ap (λ (l : List Float). insertOf (at ws i) l ++ drop (m + 1) a) front ∙ ap (λ (l : List Float). insertOf (at ws i) s ++ l) back ∙ ap (λ (l : List Float). l ++ drop (m + 1) room) one)
+    let one : insertOf (at ts i) s ≡ sortOf (drop (length ts - (m + 1)) ts) = rw (x, y, drop-cons ts i nan (omega arith)) in
+    (omega arith, e ∙ ap (λ (l : List Float). insertOf (at ts i) l ++ drop (m + 1) a) front ∙ ap (λ (l : List Float). insertOf (at ts i) s ++ l) back ∙ ap (λ (l : List Float). l ++ drop (m + 1) room) one)
 
-pub sort-end : (ws room a : List Float) (m : ℕ) → length ws ≤ m → Sorting ws room m a → a ≡ atFront (sortOf ws) room
-sort-end ws room a m h inv =
-    let e : m ≡ length ws = omega (arith, inv .0, h) in
-    let z : length ws - m ≡ 0 = omega arith in
-    inv .1 ∙ ap (λ (k : ℕ). sortOf (drop k ws) ++ drop m room) z ∙ ap (λ (k : ℕ). sortOf ws ++ drop k room) (e ∙ sym (sort-length ws))
+pub sort-end : (ts room a : List Float) (m : ℕ) → length ts ≤ m → Sorting ts room m a → a ≡ atFront (sortOf ts) room
+sort-end ts room a m h inv =
+    let e : m ≡ length ts = omega (arith, inv .0, h) in
+    let z : length ts - m ≡ 0 = omega arith in
+    inv .1 ∙ ap (λ (k : ℕ). sortOf (drop k ts) ++ drop m room) z ∙ ap (λ (k : ℕ). sortOf ts ++ drop k room) (e ∙ sym (sort-length ts))
 
 -- ---- the weights scaled by f, one after the other
 
 abbrev pub Scaling : (Float → Float) → List Float → List Float → ℕ → List Float → Type 0
-Scaling f ws room i a = (i ≤ length ws) × (a ≡ map f (take i ws) ++ drop i room)
+Scaling f ts room i a = (i ≤ length ts) × (a ≡ map f (take i ts) ++ drop i room)
 
 pub scale-next :
-    (f : Float → Float) (ws room a : List Float) (i : ℕ) → i < length ws → i < length room → Scaling f ws room i a → Scaling f ws room (i + 1) (set a i (f (at ws i)))
-scale-next f ws room a i h k inv =
-    let p = map f (take i ws) in
-    let long : length p ≡ i = length-map (take i ws) f ∙ length-take-le i ws (omega arith) in
-    let one : map f (take (i + 1) ws) ≡ p ++ (f (at ws i) ∷ []) = rw (add-one i, take-suc ws i nan h, map-append) in
-    (omega arith, ap (λ (l : List Float). set l i (f (at ws i))) (inv .1) ∙ put-next nan p room i (i + 1) (f (at ws i)) long k (omega arith) ∙ ap (λ (l : List Float). l ++ drop (i + 1) room) (sym one))
+    (f : Float → Float) (ts room a : List Float) (i : ℕ) → i < length ts → i < length room → Scaling f ts room i a → Scaling f ts room (i + 1) (set a i (f (at ts i)))
+scale-next f ts room a i h k inv =
+    let p = map f (take i ts) in
+    let long : length p ≡ i = length-map (take i ts) f ∙ length-take-le i ts (omega arith) in
+    let one : map f (take (i + 1) ts) ≡ p ++ (f (at ts i) ∷ []) = rw (add-one i, take-suc ts i nan h, map-append) in
+    (omega arith, ap (λ (l : List Float). set l i (f (at ts i))) (inv .1) ∙ put-next nan p room i (i + 1) (f (at ts i)) long k (omega arith) ∙ ap (λ (l : List Float). l ++ drop (i + 1) room) (sym one))
 
-pub scale-end : (f : Float → Float) (ws room a : List Float) (i : ℕ) → length ws ≤ i → Scaling f ws room i a → a ≡ atFront (map f ws) room
-scale-end f ws room a i h inv =
-    let e : i ≡ length ws = omega (arith, inv .0, h) in
-    inv .1 ∙ ap (λ (k : ℕ). map f (take k ws) ++ drop k room) e ∙ ap (λ (l : List Float). map f l ++ drop (length ws) room) (take-length ws)
-    ∙ ap (λ (k : ℕ). map f ws ++ drop k room) (sym (length-map ws f))
+pub scale-end : (f : Float → Float) (ts room a : List Float) (i : ℕ) → length ts ≤ i → Scaling f ts room i a → a ≡ atFront (map f ts) room
+scale-end f ts room a i h inv =
+    let e : i ≡ length ts = omega (arith, inv .0, h) in
+    inv .1 ∙ ap (λ (k : ℕ). map f (take k ts) ++ drop k room) e ∙ ap (λ (l : List Float). map f l ++ drop (length ts) room) (take-length ts)
+    ∙ ap (λ (k : ℕ). map f ts ++ drop k room) (sym (length-map ts f))
 
 -- ---- what stands behind a list does not count
 
@@ -134,35 +134,35 @@ over-front l s room e = ap (λ (r : List Float). l ++ r) (drop-at s (drop (lengt
 
 -- ---- step 3 as the code makes it: the room with the sorted weights, then with the scaled ones
 pub weighed-is :
-    (ratio : Float) (ws sorted scaled : List Float) (mid most : Float) (ok : Bool)
-    → 1 ≤ length ws
-    → sorted ≡ atFront (sortOf ws) zeros
-    → mid ≡ midOf (length ws) sorted
-    → most ≡ topOf (ratio *f mid) ws
-    → scaled ≡ atFront (map (scaleOne (ratio *f mid) most) ws) sorted
-    → ok ≡ goodFirst (length ws) scaled
-    → _≡_ {A = Weights} (record { ok = ok; cap = ratio *f mid; w = scaled }) (weighed ratio ws)
+    (ratio : Float) (ts sorted scaled : List Float) (mid most : Float) (ok : Bool)
+    → 1 ≤ length ts
+    → sorted ≡ atFront (sortOf ts) zeros
+    → mid ≡ midOf (length ts) sorted
+    → most ≡ topOf (ratio *f mid) ts
+    → scaled ≡ atFront (map (scaleOne (ratio *f mid) most) ts) sorted
+    → ok ≡ goodFirst (length ts) scaled
+    → _≡_ {A = Weights} (record { ok = ok; cap = ratio *f mid; w = scaled }) (weighed ratio ts)
 unfolding weighed
-weighed-is ratio ws sorted scaled mid most ok h e1 e2 e3 e4 e5 =
-    let n = length ws in
-    let f : Float → Float = scaleOne (capOf ratio ws) (topOf (capOf ratio ws) ws) in
-    let m : mid ≡ medianOf ws = e2 ∙ ap (midOf n) e1 ∙ mid-front n (sortOf ws) zeros (sort-length ws) h in
-    let t : most ≡ topOf (capOf ratio ws) ws = e3 ∙ ap (λ (x : Float). topOf (ratio *f x) ws) m in
-    let s : scaled ≡ atFront (scaledOf ratio ws) zeros =
-    e4 ∙ ap (λ (x : Float). atFront (map (scaleOne (ratio *f x) most) ws) sorted) m ∙ ap (λ (x : Float). atFront (map (scaleOne (capOf ratio ws) x) ws) sorted) t
-    ∙ ap (atFront (scaledOf ratio ws)) e1 ∙ over-front (scaledOf ratio ws) (sortOf ws) zeros (length-map ws f ∙ sym (sort-length ws)) in
-    let o : ok ≡ allGood (scaledOf ratio ws) = e5 ∙ ap (goodFirst n) s ∙ good-front n (scaledOf ratio ws) zeros (length-map ws f) in
+weighed-is ratio ts sorted scaled mid most ok h e1 e2 e3 e4 e5 =
+    let n = length ts in
+    let f : Float → Float = scaleOne (capOf ratio ts) (topOf (capOf ratio ts) ts) in
+    let m : mid ≡ medianOf ts = e2 ∙ ap (midOf n) e1 ∙ mid-front n (sortOf ts) zeros (sort-length ts) h in
+    let t : most ≡ topOf (capOf ratio ts) ts = e3 ∙ ap (λ (x : Float). topOf (ratio *f x) ts) m in
+    let s : scaled ≡ atFront (scaledOf ratio ts) zeros =
+    e4 ∙ ap (λ (x : Float). atFront (map (scaleOne (ratio *f x) most) ts) sorted) m ∙ ap (λ (x : Float). atFront (map (scaleOne (capOf ratio ts) x) ts) sorted) t
+    ∙ ap (atFront (scaledOf ratio ts)) e1 ∙ over-front (scaledOf ratio ts) (sortOf ts) zeros (length-map ts f ∙ sym (sort-length ts)) in
+    let o : ok ≡ allGood (scaledOf ratio ts) = e5 ∙ ap (goodFirst n) s ∙ good-front n (scaledOf ratio ts) zeros (length-map ts f) in
     λ i. record { ok = o i; cap = ratio *f m i; w = s i }
 
 -- ---- what a caller with 1 to 256 weights holds
 
-pub scaled-length : (ratio : Float) (ws : List Float) → length (scaledOf ratio ws) ≡ length ws
-scaled-length ratio ws = length-map ws (scaleOne (capOf ratio ws) (topOf (capOf ratio ws) ws))
+pub scaled-length : (ratio : Float) (ts : List Float) → length (scaledOf ratio ts) ≡ length ts
+scaled-length ratio ts = length-map ts (scaleOne (capOf ratio ts) (topOf (capOf ratio ts) ts))
 
-pub weights-are : (ratio : Float) (ws : List Float) → 1 ≤ length ws → length ws ≤ 256 → weightsOf ratio ws ≡ weighed ratio ws
+pub weights-are : (ratio : Float) (ts : List Float) → 1 ≤ length ts → length ts ≤ 256 → weightsOf ratio ts ≡ weighed ratio ts
 unfolding weightsOf
-weights-are ratio ws l h = sym (if-true _ (le-leb 1 (length ws) l) (if-true _ (le-leb (length ws) 256 h) refl))
+weights-are ratio ts l h = sym (if-true _ (le-leb 1 (length ts) l) (if-true _ (le-leb (length ts) 256 h) refl))
 
-pub take-weighed : (ratio : Float) (ws : List Float) → take (length ws) (weighed ratio ws .w) ≡ scaledOf ratio ws
+pub take-weighed : (ratio : Float) (ts : List Float) → take (length ts) (weighed ratio ts .w) ≡ scaledOf ratio ts
 unfolding weighed
-take-weighed ratio ws = take-at (scaledOf ratio ws) (drop (length (scaledOf ratio ws)) zeros) (length ws) (scaled-length ratio ws)
+take-weighed ratio ts = take-at (scaledOf ratio ts) (drop (length (scaledOf ratio ts)) zeros) (length ts) (scaled-length ratio ts)

@@ -139,9 +139,9 @@ max-is P t v n f g = go (lt t v) (ne t t) refl f g
     go false true e p q = absurd (same-is t n e)
     go false false e p q = q tt
 
-module _ (cap : Float) (ws : List Float) where
+module _ (cap : Float) (ts : List Float) where
   abbrev v : ℕ → Float
-  v j = minOf (at ws j) cap
+  v j = minOf (at ts j) cap
 
   -- of the first i: 0, or one of them, and that is above 0
   data Top (i : ℕ) (t : Float) : Type 0 where
@@ -165,7 +165,7 @@ module _ (cap : Float) (ws : List Float) where
     top : Top i t
     most : (j : ℕ) → j < i → Number (v j) → T (le (v j) t)
 
-  larger : (i : ℕ) (t : Float) → i < length ws → Largest i t → Largest (i + 1) (maxOf t (v i))
+  larger : (i : ℕ) (t : Float) → i < length ts → Largest i t → Largest (i + 1) (maxOf t (v i))
   larger i t l h =
       let n = top-number i t (h .top) in
       record {
@@ -187,9 +187,9 @@ module _ (cap : Float) (ws : List Float) where
           go true f h = tt
           go false f h = absurd (yes-no (lt y x) (f tt) h)
 
-  largest : Largest (length ws) (topOf cap ws)
+  largest : Largest (length ts) (topOf cap ts)
   unfolding topOf
-  largest = for-ind (λ i t. maxOf t (v i)) Largest (length ws) larger +0 (record { top = none refl; most = λ j l. absurd (not-suc-le-zero l) })
+  largest = for-ind (λ i t. maxOf t (v i)) Largest (length ts) larger +0 (record { top = none refl; most = λ j l. absurd (not-suc-le-zero l) })
 
 -- ---- the scaled weights
 

@@ -44,10 +44,10 @@ unfolding insertOf Each
 each-insert P x [] p h = (p, h)
 each-insert P x (y ∷ ys) p h = (cond-ind P (lt x y) p (h .0), each-insert P (greater x y) ys (cond-ind P (lt x y) (h .0) p) (h .1))
 
-each-sort : (P : Float → Type 0) (ws : List Float) → Each P ws → Each P (sortOf ws)
+each-sort : (P : Float → Type 0) (ts : List Float) → Each P ts → Each P (sortOf ts)
 unfolding sortOf Each
 each-sort P [] h = tt
-each-sort P (w ∷ ws) h = each-insert P w (sortOf ws) (h .0) (each-sort P ws (h .1))
+each-sort P (w ∷ ts) h = each-insert P w (sortOf ts) (h .0) (each-sort P ts (h .1))
 
 each-both : (P Q R : Float → Type 0) → ((z : Float) → P z → Q z → R z) → (ys : List Float) → Each P ys → Each Q ys → Each R ys
 unfolding Each
@@ -87,10 +87,10 @@ rising-insert x (y ∷ ys) p n h =
     )
 
 -- of weights none of which is NaN
-pub rising-sort : (ws : List Float) → Each Number ws → Rising (sortOf ws)
+pub rising-sort : (ts : List Float) → Each Number ts → Rising (sortOf ts)
 unfolding sortOf Each Rising
 rising-sort [] h = tt
-rising-sort (w ∷ ws) h = rising-insert w (sortOf ws) (h .0) (each-sort Number ws (h .1)) (rising-sort ws (h .1))
+rising-sort (w ∷ ts) h = rising-insert w (sortOf ts) (h .0) (each-sort Number ts (h .1)) (rising-sort ts (h .1))
 
 -- ---- each is there as often, whatever is counted
 
@@ -103,23 +103,23 @@ count-insert t x (y ∷ ys) = rw (count-insert t (greater x y) ys) (go (lt x y))
     go true = refl
     go false = omega arith
 
-pub count-sort : (t : Float → Bool) (ws : List Float) → count t (sortOf ws) ≡ count t ws
+pub count-sort : (t : Float → Bool) (ts : List Float) → count t (sortOf ts) ≡ count t ts
 unfolding sortOf count
 count-sort t [] = refl
-count-sort t (w ∷ ws) = count-insert t w (sortOf ws) ∙ ap (λ n. cond (t w) 1 0 + n) (count-sort t ws)
+count-sort t (w ∷ ts) = count-insert t w (sortOf ts) ∙ ap (λ n. cond (t w) 1 0 + n) (count-sort t ts)
 
 -- ---- the median is the middle: of 2 h + 1 weights the one at h, of 2 h half way between the two
 
-pub median-odd : (ws : List Float) (h : ℕ) → length ws ≡ 2 * h + 1 → medianOf ws ≡ at (sortOf ws) h
+pub median-odd : (ts : List Float) (h : ℕ) → length ts ≡ 2 * h + 1 → medianOf ts ≡ at (sortOf ts) h
 unfolding midOf
-median-odd ws h e =
-    let n = length ws in
+median-odd ts h e =
+    let n = length ts in
     let half : n / 2 ≡ h = omega arith in
     rw (ne-eqb (n % 2) 0 (λ z. omega arith), half)
 
-pub median-even : (ws : List Float) (h : ℕ) → length ws ≡ 2 * h → medianOf ws ≡ between (at (sortOf ws) (h - 1)) (at (sortOf ws) h)
+pub median-even : (ts : List Float) (h : ℕ) → length ts ≡ 2 * h → medianOf ts ≡ between (at (sortOf ts) (h - 1)) (at (sortOf ts) h)
 unfolding midOf
-median-even ws h e =
-    let n = length ws in
+median-even ts h e =
+    let n = length ts in
     let half : n / 2 ≡ h = omega arith in
     rw (eq-eqb (n % 2) 0 (omega arith), half)

@@ -1,4 +1,5 @@
 -- Step 3 of the fit: the median weight, the cap, and the weights capped and scaled so that the largest is 1. Definitions only.
+-- docs/METHOD.md, 'Weights'.
 use mathlib.Core.Bool.{Bool, true, false, _&&_, cond}
 use mathlib.Core.List.{List, [], _∷_, _++_, map}
 use Prim.Native.Nat.{ℕ, _-_, _/_, _%_}
@@ -26,7 +27,7 @@ insertOf x (y ∷ ys) = lesser x y ∷ insertOf (greater x y) ys
 
 unfoldable pub sortOf : List Float → List Float
 sortOf [] = []
-sortOf (w ∷ ws) = insertOf w (sortOf ws)
+sortOf (t ∷ ts) = insertOf t (sortOf ts)
 
 -- half way from lo to hi
 abbrev pub between : Float → Float → Float
@@ -37,40 +38,40 @@ unfoldable pub midOf : ℕ → List Float → Float
 midOf n s = cond (eqb (n % 2) 0) (between (at s (n / 2 - 1)) (at s (n / 2))) (at s (n / 2))
 
 abbrev pub medianOf : List Float → Float
-medianOf ws = midOf (length ws) (sortOf ws)
+medianOf ts = midOf (length ts) (sortOf ts)
 
 -- ---- the cap
 
 abbrev pub capOf : Float → List Float → Float
-capOf ratio ws = ratio *f medianOf ws
+capOf ratio ts = ratio *f medianOf ts
 
 -- the positions of the weights above a cap, counted from 0, rising
 unfoldable pub cappedAt : Float → List Float → List ℕ
-cappedAt cap ws = for 0 (length ws) (λ i l. cond (lt cap (at ws i)) (l ++ (i ∷ [])) l) []
+cappedAt cap ts = for 0 (length ts) (λ i l. cond (lt cap (at ts i)) (l ++ (i ∷ [])) l) []
 
 abbrev pub cappedOf : Float → List Float → List ℕ
-cappedOf ratio ws = cappedAt (capOf ratio ws) ws
+cappedOf ratio ts = cappedAt (capOf ratio ts) ts
 
 -- the largest of the weights, each at most the cap
 unfoldable pub topOf : Float → List Float → Float
-topOf cap ws = for 0 (length ws) (λ i t. maxOf t (minOf (at ws i) cap)) +0
+topOf cap ts = for 0 (length ts) (λ i top. maxOf top (minOf (at ts i) cap)) +0
 
 -- ---- the scaled weights
 
 abbrev pub scaleOne : Float → Float → Float → Float
-scaleOne cap top w = minOf w cap /f top
+scaleOne cap top t = minOf t cap /f top
 
 -- each is at most the cap, over the largest such
 abbrev pub scaledOf : Float → List Float → List Float
-scaledOf ratio ws = map (scaleOne (capOf ratio ws) (topOf (capOf ratio ws) ws)) ws
+scaledOf ratio ts = map (scaleOne (capOf ratio ts) (topOf (capOf ratio ts) ts)) ts
 
 -- each of the first n is finite and positive
 abbrev pub goodFirst : ℕ → List Float → Bool
-goodFirst n ws = for 0 n (λ i good. good && positive (at ws i)) true
+goodFirst n ts = for 0 n (λ i good. good && positive (at ts i)) true
 
 -- check 5: each is finite and positive
 unfoldable pub allGood : List Float → Bool
-allGood ws = goodFirst (length ws) ws
+allGood ts = goodFirst (length ts) ts
 
 -- ---- what step 3 hands on
 
@@ -79,13 +80,13 @@ abbrev pub zeros : List Float
 zeros = replicate 256 +0
 
 unfoldable pub weighed : Float → List Float → Weights
-weighed ratio ws =
-    record { ok = allGood (scaledOf ratio ws); cap = capOf ratio ws; w = atFront (scaledOf ratio ws) zeros }
+weighed ratio ts =
+    record { ok = allGood (scaledOf ratio ts); cap = capOf ratio ts; w = atFront (scaledOf ratio ts) zeros }
 
 -- of 1 to 256 weights
 unfoldable pub weightsOf : Float → List Float → Weights
-weightsOf ratio ws =
+weightsOf ratio ts =
     let nothing : Weights = record { ok = false; cap = +0; w = zeros } in
-    unless (leb 1 (length ws)) nothing
-    (unless (leb (length ws) 256) nothing
-    (weighed ratio ws))
+    unless (leb 1 (length ts)) nothing
+    (unless (leb (length ts) 256) nothing
+    (weighed ratio ts))

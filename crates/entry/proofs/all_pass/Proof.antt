@@ -7,19 +7,19 @@ use Rattle.laws.specs.Floats.{at}
 use Rattle.laws.proofs.Loops.{again, ended}
 use mathlib.Core.Bool.{Bool, _&&_}
 use Rattle.records.specs.Observation.{passes}
-use Rattle.entry.specs.Entry.{allPass}
+use Rattle.entry.specs.Entry.{columnsPass}
 use native.Mathlib.Omega.{arith}
 use Rattle.entry.proofs.all_pass.Statement.{statement}
 use Rattle.entry.proofs.all_pass.Tie as tie
 
 abbrev Inv-loop : tie.InvT-loop
-Inv-loop k w weight ok₀ i₀ i-end ok i = for i (length k) (λ i b. b && passes (at k i) (at w i) (at weight i)) ok ≡ allPass k w weight
+Inv-loop k w weight ok₀ i₀ i-end ok i = for i (length k) (λ i b. b && passes (at k i) (at w i) (at weight i)) ok ≡ columnsPass k w weight
 
 abbrev μ-loop : tie.MeasureT-loop
 μ-loop k w weight ok₀ i₀ i-end ok i = length k - i
 
 loop-holds : tie.Need-loop-holds Inv-loop μ-loop
-unfolding allPass
+unfolding columnsPass
 loop-holds c = refl
 
 loop-again : tie.Need-loop-again Inv-loop μ-loop

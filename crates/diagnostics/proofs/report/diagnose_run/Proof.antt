@@ -1,5 +1,5 @@
 -- `diagnostics::report::diagnose_run` meets its contract. Assumes nothing.
-use Rattle.diagnostics.specs.Diagnostics.{diagnoseOf, outcome}
+use Rattle.diagnostics.specs.Diagnostics.{diagnoseOf, withRoom}
 use Rattle.laws.proofs.Choices.{number-goes, number-no}
 use Prim.Native.Nat.{ℕ}
 use lib.ListN.{length}
@@ -32,7 +32,7 @@ unfolding diagnoseOf
 returns-2 c =
     let a = c .before .before .before .before .before .args in
     halves (diagnoseOf (a .run) (a .policy) (a .ks .now) (a .axis .now) (a .tol) (a .room .now))
-    (number-no _ (λ (n : ℕ). outcome (Refused n) (c .before .before .before .before .before .args .room .now)) (c .before .diagnose-number .ensures) (c .if1 .left))
+    (number-no _ (λ (n : ℕ). withRoom (Refused n) (c .before .before .before .before .before .args .room .now)) (c .before .diagnose-number .ensures) (c .if1 .left))
 
 pub diagnose-run-spec : {M : Type 1} → statement M
 diagnose-run-spec =
