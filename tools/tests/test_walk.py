@@ -60,5 +60,21 @@ class Walk(Case):
         answer = walk.Definition("a", "Answers", "answerOf")
         with self.assertRaisesRegex(SystemExit, "one definition of what is written"):
             walk.Walk("a", "f", ("a", "g"), [walk.lent_to_write("room")], answer, walk.U32)
+        with self.assertRaisesRegex(SystemExit, "one definition of what is written"):
+            walk.Walk("a", "f", ("a", "g"), [walk.lent_to_write("room"), walk.array_to_write("row", walk.F64, 3)], answer, walk.U32, answer)
         with self.assertRaisesRegex(SystemExit, "the proof has its own r"):
             walk.Walk("a", "f", ("a", "g"), [walk.real("r")], answer, walk.U32)
+        with self.assertRaisesRegex(SystemExit, "the proof has its own l1"):
+            walk.Walk("a", "f", ("a", "g"), [walk.array_to_write("row", walk.F64, 3), walk.array_to_write("l1", walk.F64, 1)], answer, walk.U32, answer, answer)
+
+    def test_what_is_written(self):
+        """An array goes on by its address alone, a slice by two locals; of a slice's last list the length is known."""
+        walk = program("walk.py")
+        answer, row = walk.Definition("a", "Answers", "answerOf", "{} .number"), walk.Definition("a", "Answers", "answerOf", "rowOf ({})", [("Rows", "rowOf")])
+        line = walk.Walk("a", "f", ("a", "g"), [walk.real("k"), walk.lent_to_write("room"), walk.array_to_write("row", walk.USIZE, 3)], answer, walk.U32, answer, row)
+        text = walk.written(line)
+        self.assertIn("-- `room` is lent on: its address in _6, the slice there in _7", text)
+        self.assertIn("-- `row` is lent on: its address in _8\n", text)
+        self.assertIn("Said z r l l1 = (r ≡ answerOf z k (room .now) .number) × (l ≡ answerOf z k (room .now) .number) × (l1 ≡ rowOf (answerOf z k (room .now)))", text)
+        self.assertIn("exits : (r : ℕ) (u : Val) (l : List Float) → length l ≡ length (room .now) → (l1 : List ℕ) → Said", text)
+        self.assertIn("use Rattle.a.specs.Rows.{rowOf}", text)

@@ -1,2 +1,4 @@
 -- What the function proofs share.
 pub mod Told
+-- Theorems.
+pub mod RowsReadBack

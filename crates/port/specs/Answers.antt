@@ -1,9 +1,10 @@
--- The answers as records: the number of a refusal, or 0, and the values of each case. A refusal carries zeros. Definitions only.
-use mathlib.Core.Bool.{true, false, cond}
-use mathlib.Core.List.{List}
-use Prim.Native.Nat.{ℕ}
+-- The answers as records, and as the rows of numbers that leave the library: the number of a refusal, or 0, and the values of each case. A refusal carries zeros. Definitions only.
+use mathlib.Core.Bool.{true, false, not, cond}
+use mathlib.Core.List.{List, [], _∷_, _++_}
+use Prim.Native.Nat.{ℕ, _+_}
 use lib.Dec.{eqb}
-use lib.Ieee.{Float}
+use lib.ListN.{getD}
+use lib.Ieee.{Float, nan}
 use Rattle.laws.specs.Floats.{+0}
 use Rattle.slice.specs.declared.Ranged.{Ranged}
 use Rattle.slice.specs.declared.Ranged.the-variants as ranged
@@ -30,8 +31,10 @@ use Rattle.diagnostics.specs.declared.report.DiagnosticsConfig.{DiagnosticsConf
 use Rattle.diagnostics.specs.declared.report.SurfaceDiagnostics.{SurfaceDiagnostics}
 use Rattle.diagnostics.specs.declared.report.Diagnosed.{Diagnosed}
 use Rattle.diagnostics.specs.declared.report.Diagnosed.the-variants as diagnosed
-use Rattle.diagnostics.specs.Tally.{noCheck}
+use Rattle.diagnostics.specs.declared.tally.Check.{Check}
+use Rattle.diagnostics.specs.Tally.{pointAt, noCheck}
 use Rattle.diagnostics.specs.Diagnostics.{diagnoseOf}
+use Rattle.port.specs.Flag.{flag}
 use Rattle.port.specs.declared.answers.RangeAnswer.{RangeAnswer}
 use Rattle.port.specs.declared.answers.SliceAnswer.{SliceAnswer}
 use Rattle.port.specs.declared.answers.LevelAnswer.{LevelAnswer}
@@ -106,9 +109,53 @@ totalFor run policy k tau = totalAnswer (totalRun run (policyOf policy) k tau)
 unfoldable pub coversFor : Run → List Float → List Float → CoversAnswer
 coversFor run ks taus = coversAnswer (coversRun run ks taus)
 
-unfoldable pub diagnosedFor : Run → ℕ → List Float → List Float → DiagnosticsConfig → List Float → DiagnosedAnswer
-diagnosedFor run policy ks taus config room = diagnosedAnswer (diagnoseOf run (policyOf policy) ks taus config room .answer)
+-- the settings of a grid: its two tolerances
+abbrev pub gridConfig : Float → Float → DiagnosticsConfig
+gridConfig butterfly calendar = record { «butterfly_tolerance» = butterfly; «calendar_tolerance» = calendar }
+
+unfoldable pub diagnosedFor : Run → ℕ → List Float → List Float → Float → Float → List Float → DiagnosedAnswer
+diagnosedFor run policy ks taus butterfly calendar room = diagnosedAnswer (diagnoseOf run (policyOf policy) ks taus (gridConfig butterfly calendar) room .answer)
 
 -- what the room holds afterwards
-unfoldable pub roomFor : Run → ℕ → List Float → List Float → DiagnosticsConfig → List Float → List Float
-roomFor run policy ks taus config room = diagnoseOf run (policyOf policy) ks taus config room .room
+unfoldable pub roomFor : Run → ℕ → List Float → List Float → Float → Float → List Float → List Float
+roomFor run policy ks taus butterfly calendar room = diagnoseOf run (policyOf policy) ks taus (gridConfig butterfly calendar) room .room
+
+-- ---- as rows of numbers
+
+-- w, w_k, w_kk, w_tau
+abbrev pub totalRow : TotalAnswer → List Float
+totalRow a = a .total .w ∷ a .total .«w_k» ∷ a .total .«w_kk» ∷ a .total .«w_tau» ∷ []
+
+-- below as 1 or 0, lo, hi
+abbrev pub placesRow : BracketAnswer → List ℕ
+placesRow a = flag (a .below) ∷ a .lo ∷ a .hi ∷ []
+
+-- points, violations, found as 1 or 0
+abbrev pub checkCounts : Check → List ℕ
+checkCounts c = c .points ∷ c .violations ∷ flag (c .worst .found) ∷ []
+
+-- k, tau, value of the worst
+abbrev pub checkWorst : Check → List Float
+checkWorst c = c .worst .at .k ∷ c .worst .at .tau ∷ c .worst .at .value ∷ []
+
+-- of the butterflies, of the slopes, of the gaps; then the failures
+abbrev pub diagnosedCounts : DiagnosedAnswer → List ℕ
+diagnosedCounts a = checkCounts (a .report .butterfly) ++ checkCounts (a .report .«calendar_slope») ++ checkCounts (a .report .«calendar_gap») ++ a .report .«evaluation_failures» ∷ []
+
+-- of the butterflies, of the slopes, of the gaps
+abbrev pub diagnosedWorst : DiagnosedAnswer → List Float
+diagnosedWorst a = checkWorst (a .report .butterfly) ++ checkWorst (a .report .«calendar_slope») ++ checkWorst (a .report .«calendar_gap»)
+
+-- ---- out of such rows
+
+-- found is 0 for no, any other number for yes
+abbrev pub checkOf : ℕ → ℕ → ℕ → Float → Float → Float → Check
+checkOf points violations found k tau value = record { points = points; violations = violations; worst = record { found = not (eqb found 0); at = pointAt k tau value } }
+
+-- the check whose counts and worst begin at place i
+abbrev pub checkAt : ℕ → List ℕ → List Float → Check
+checkAt i counts worst = checkOf (getD counts i 0) (getD counts (i + 1) 0) (getD counts (i + 2) 0) (getD worst i nan) (getD worst (i + 1) nan) (getD worst (i + 2) nan)
+
+-- the report whose rows these are
+abbrev pub reportAt : List ℕ → List Float → SurfaceDiagnostics
+reportAt counts worst = record { butterfly = checkAt 0 counts worst; «calendar_slope» = checkAt 3 counts worst; «calendar_gap» = checkAt 6 counts worst; «evaluation_failures» = getD counts 9 0 }

@@ -1,21 +1,17 @@
 // Slices, points, surfaces and their diagnostics, for callers outside. A policy is a number: 1 for ConstantVol, every other for Reject.
 ghost use mathlib.Core.Path.{_≡_};
+ghost use mathlib.Core.List.{[], _∷_};
 ghost use Rattle.slice.specs.Slice.{holdsK, rangedOf, madeOf, minimumOf, leeSlopeOf, evalOf};
 ghost use Rattle.point.specs.Point.{pointNumber, totalOf};
 ghost use Rattle.surface.specs.Runs.{runOf, checkRun};
-ghost use Rattle.diagnostics.specs.Tally.{recordedOf, isClean};
+ghost use Rattle.diagnostics.specs.Tally.{pointAt, recordedOf, isClean};
 ghost use Rattle.diagnostics.specs.Diagnostics.{reportClean};
-ghost use Rattle.port.specs.Answers.{rangeAnswer, sliceAnswer, levelAnswer, valuesAnswer, totalAnswer, bracketFor, regionFor, totalFor, coversFor, diagnosedFor, roomFor};
-use crate::answers::BracketAnswer;
-use crate::answers::CoversAnswer;
-use crate::answers::DiagnosedAnswer;
+ghost use Rattle.port.specs.Answers.{rangeAnswer, sliceAnswer, levelAnswer, valuesAnswer, totalAnswer, bracketFor, regionFor, totalFor, coversFor, diagnosedFor, roomFor, totalRow, placesRow, diagnosedCounts, diagnosedWorst, checkAt, reportAt};
+ghost use Rattle.port.specs.Flag.{flag};
 use crate::answers::LevelAnswer;
 use crate::answers::RangeAnswer;
-use crate::answers::RegionAnswer;
 use crate::answers::SliceAnswer;
-use crate::answers::TotalAnswer;
 use crate::answers::ValuesAnswer;
-use diagnostics::report::DiagnosticsConfig;
 use diagnostics::report::SurfaceDiagnostics;
 use diagnostics::tally::Check;
 use diagnostics::tally::DiagnosticPoint;
@@ -85,10 +81,16 @@ pub extern "C" fn port_check_point(k: f64, tau: f64) -> u32
 }
 
 #[no_mangle]
-pub extern "C" fn port_total(w: f64, w_k: f64, w_kk: f64, w_tau: f64) -> TotalAnswer
-    ensures { λ r. ⌜ r ≡ totalAnswer (totalOf w «w_k» «w_kk» «w_tau») ⌝ }
+pub extern "C" fn port_raw_total(
+    w: f64,
+    w_k: f64,
+    w_kk: f64,
+    w_tau: f64,
+    total: &mut [f64; 4],
+) -> u32
+    ensures { λ r. ⌜ (r ≡ totalAnswer (totalOf w «w_k» «w_kk» «w_tau») .number) × (now (total .exit) ≡ totalRow (totalAnswer (totalOf w «w_k» «w_kk» «w_tau»))) ⌝ }
 {
-    crate::answers::total_answer(TotalVariance::new(w, w_k, w_kk, w_tau))
+    crate::answers::write_total(TotalVariance::new(w, w_k, w_kk, w_tau), total)
 }
 
 // ---- a lent run of slices
@@ -100,73 +102,123 @@ pub extern "C" fn port_surface(slices: &[SviSlice]) -> u32
     surface::run::check_run(surface::copied(slices))
 }
 
+// Where (k, tau) lies. places: below (1 or 0), lo, hi; x: the weight of hi.
 #[no_mangle]
-pub extern "C" fn port_bracket(slices: &[SviSlice], policy: u32, k: f64, tau: f64) -> BracketAnswer
-    ensures { λ r. ⌜ r ≡ bracketFor (runOf (now (slices .entry))) policy k tau ⌝ }
-{
-    crate::answers::bracket_of(surface::copied(slices), policy, k, tau)
-}
-
-#[no_mangle]
-pub extern "C" fn port_region(slices: &[SviSlice], policy: u32, k: f64, tau: f64) -> RegionAnswer
-    ensures { λ r. ⌜ r ≡ regionFor (runOf (now (slices .entry))) policy k tau ⌝ }
-{
-    crate::answers::region_of(surface::copied(slices), policy, k, tau)
-}
-
-#[no_mangle]
-pub extern "C" fn port_total_variance(
+pub extern "C" fn port_raw_bracket(
     slices: &[SviSlice],
     policy: u32,
     k: f64,
     tau: f64,
-) -> TotalAnswer
-    ensures { λ r. ⌜ r ≡ totalFor (runOf (now (slices .entry))) policy k tau ⌝ }
+    places: &mut [usize; 3],
+    x: &mut [f64; 1],
+) -> u32
+    ensures { λ r. ⌜ (r ≡ bracketFor (runOf (now (slices .entry))) policy k tau .number) × (now (places .exit) ≡ placesRow (bracketFor (runOf (now (slices .entry))) policy k tau)) × (now (x .exit) ≡ bracketFor (runOf (now (slices .entry))) policy k tau .x ∷ []) ⌝ }
 {
-    crate::answers::total_of(surface::copied(slices), policy, k, tau)
+    crate::answers::bracket_of(surface::copied(slices), policy, k, tau, places, x)
 }
 
 #[no_mangle]
-pub extern "C" fn port_covers_nodes(slices: &[SviSlice], ks: &[f64], taus: &[f64]) -> CoversAnswer
-    ensures { λ r. ⌜ r ≡ coversFor (runOf (now (slices .entry))) (now (ks .entry)) (now (taus .entry)) ⌝ }
+pub extern "C" fn port_raw_region(
+    slices: &[SviSlice],
+    policy: u32,
+    k: f64,
+    tau: f64,
+    calibrated: &mut [usize; 1],
+) -> u32
+    ensures { λ r. ⌜ (r ≡ regionFor (runOf (now (slices .entry))) policy k tau .number) × (now (calibrated .exit) ≡ flag (regionFor (runOf (now (slices .entry))) policy k tau .calibrated) ∷ []) ⌝ }
 {
-    crate::answers::covers_of(surface::copied(slices), ks, taus)
+    crate::answers::region_of(surface::copied(slices), policy, k, tau, calibrated)
+}
+
+#[no_mangle]
+pub extern "C" fn port_raw_total_variance(
+    slices: &[SviSlice],
+    policy: u32,
+    k: f64,
+    tau: f64,
+    total: &mut [f64; 4],
+) -> u32
+    ensures { λ r. ⌜ (r ≡ totalFor (runOf (now (slices .entry))) policy k tau .number) × (now (total .exit) ≡ totalRow (totalFor (runOf (now (slices .entry))) policy k tau)) ⌝ }
+{
+    crate::answers::total_of(surface::copied(slices), policy, k, tau, total)
+}
+
+#[no_mangle]
+pub extern "C" fn port_raw_covers_nodes(
+    slices: &[SviSlice],
+    ks: &[f64],
+    taus: &[f64],
+    all: &mut [usize; 1],
+) -> u32
+    ensures { λ r. ⌜ (r ≡ coversFor (runOf (now (slices .entry))) (now (ks .entry)) (now (taus .entry)) .number) × (now (all .exit) ≡ flag (coversFor (runOf (now (slices .entry))) (now (ks .entry)) (now (taus .entry)) .all) ∷ []) ⌝ }
+{
+    crate::answers::covers_of(surface::copied(slices), ks, taus, all)
 }
 
 // ---- diagnostics
 
+// counts: points, violations, found (1 or 0) of the butterflies, of the slopes, of the gaps, then the failures; worst: k, tau, value of each of the three.
 #[no_mangle]
-pub extern "C" fn port_diagnose(
+pub extern "C" fn port_raw_diagnose(
     slices: &[SviSlice],
     policy: u32,
     ks: &[f64],
     taus: &[f64],
-    config: DiagnosticsConfig,
+    butterfly_tolerance: f64,
+    calendar_tolerance: f64,
     room: &mut [f64],
-) -> DiagnosedAnswer
-    ensures { λ r. ⌜ (r ≡ diagnosedFor (runOf (now (slices .entry))) policy (now (ks .entry)) (now (taus .entry)) config (now (room .entry))) × (now (room .exit) ≡ roomFor (runOf (now (slices .entry))) policy (now (ks .entry)) (now (taus .entry)) config (now (room .entry))) ⌝ }
+    counts: &mut [usize; 10],
+    worst: &mut [f64; 9],
+) -> u32
+    ensures { λ r. ⌜ (r ≡ diagnosedFor (runOf (now (slices .entry))) policy (now (ks .entry)) (now (taus .entry)) «butterfly_tolerance» «calendar_tolerance» (now (room .entry)) .number) × (now (room .exit) ≡ roomFor (runOf (now (slices .entry))) policy (now (ks .entry)) (now (taus .entry)) «butterfly_tolerance» «calendar_tolerance» (now (room .entry))) × (now (counts .exit) ≡ diagnosedCounts (diagnosedFor (runOf (now (slices .entry))) policy (now (ks .entry)) (now (taus .entry)) «butterfly_tolerance» «calendar_tolerance» (now (room .entry)))) × (now (worst .exit) ≡ diagnosedWorst (diagnosedFor (runOf (now (slices .entry))) policy (now (ks .entry)) (now (taus .entry)) «butterfly_tolerance» «calendar_tolerance» (now (room .entry)))) ⌝ }
 {
-    crate::answers::diagnose_of(surface::copied(slices), policy, ks, taus, config, room)
+    crate::answers::diagnose_of(
+        surface::copied(slices),
+        policy,
+        ks,
+        taus,
+        butterfly_tolerance,
+        calendar_tolerance,
+        room,
+        counts,
+        worst,
+    )
 }
 
 // The tally is lent, and updated where it stands.
 #[no_mangle]
-pub extern "C" fn port_check_record(check: &mut Check, point: DiagnosticPoint, tolerance: f64)
-    ensures { λ _. ⌜ now (check .exit) ≡ recordedOf (now (check .entry)) point tolerance ⌝ }
+pub extern "C" fn port_raw_check_record(
+    check: &mut Check,
+    k: f64,
+    tau: f64,
+    value: f64,
+    tolerance: f64,
+)
+    ensures { λ _. ⌜ now (check .exit) ≡ recordedOf (now (check .entry)) (pointAt k tau value) tolerance ⌝ }
 {
-    check.record(point, tolerance);
+    check.record(DiagnosticPoint { k, tau, value }, tolerance);
 }
 
+// counts: points, violations, found (0 for no, any other number for yes); worst: k, tau, value.
 #[no_mangle]
-pub extern "C" fn port_check_clean(check: Check) -> bool
-    ensures { λ r. ⌜ r ≡ isClean check ⌝ }
+pub extern "C" fn port_raw_check_clean(counts: &[usize; 3], worst: &[f64; 3]) -> u32
+    ensures { λ r. ⌜ r ≡ flag (isClean (checkAt 0 (now (counts .entry)) (now (worst .entry)))) ⌝ }
 {
-    Check::is_clean(check)
+    bits::pick_number(
+        Check::is_clean(crate::answers::check_at(counts, worst)),
+        1,
+        0,
+    )
 }
 
+// The rows that port_raw_diagnose writes.
 #[no_mangle]
-pub extern "C" fn port_report_clean(report: SurfaceDiagnostics) -> bool
-    ensures { λ r. ⌜ r ≡ reportClean report ⌝ }
+pub extern "C" fn port_raw_report_clean(counts: &[usize; 10], worst: &[f64; 9]) -> u32
+    ensures { λ r. ⌜ r ≡ flag (reportClean (reportAt (now (counts .entry)) (now (worst .entry)))) ⌝ }
 {
-    SurfaceDiagnostics::is_clean(report)
+    bits::pick_number(
+        SurfaceDiagnostics::is_clean(crate::answers::report_at(counts, worst)),
+        1,
+        0,
+    )
 }

@@ -5,24 +5,17 @@ use Rattle.cell.specs.Cell.{innerOf}
 use Rattle.cell.specs.declared.Cell.{Cell}
 use Rattle.cell.specs.declared.Limits.{Limits}
 use Rattle.diagnostics.specs.Diagnostics.{reportClean}
-use Rattle.diagnostics.specs.Tally.{isClean, recordedOf}
-use Rattle.diagnostics.specs.declared.report.DiagnosticsConfig.{DiagnosticsConfig}
-use Rattle.diagnostics.specs.declared.report.SurfaceDiagnostics.{SurfaceDiagnostics}
+use Rattle.diagnostics.specs.Tally.{isClean, pointAt, recordedOf}
 use Rattle.diagnostics.specs.declared.tally.Check.{Check}
-use Rattle.diagnostics.specs.declared.tally.DiagnosticPoint.{DiagnosticPoint}
 use Rattle.exponent.specs.Exp.{expOf}
 use Rattle.exponent.specs.Ln.{lnOf}
 use Rattle.laws.proofs.Choices.{settled}
 use Rattle.point.specs.Point.{pointNumber, totalOf}
-use Rattle.port.specs.Answers.{bracketFor, coversFor, diagnosedFor, levelAnswer, rangeAnswer, regionFor, roomFor, sliceAnswer, totalAnswer, totalFor, valuesAnswer}
-use Rattle.port.specs.declared.answers.BracketAnswer.{BracketAnswer}
-use Rattle.port.specs.declared.answers.CoversAnswer.{CoversAnswer}
-use Rattle.port.specs.declared.answers.DiagnosedAnswer.{DiagnosedAnswer}
+use Rattle.port.specs.Answers.{bracketFor, checkAt, coversFor, diagnosedCounts, diagnosedFor, diagnosedWorst, levelAnswer, placesRow, rangeAnswer, regionFor, reportAt, roomFor, sliceAnswer, totalAnswer, totalFor, totalRow, valuesAnswer}
+use Rattle.port.specs.Flag.{flag}
 use Rattle.port.specs.declared.answers.LevelAnswer.{LevelAnswer}
 use Rattle.port.specs.declared.answers.RangeAnswer.{RangeAnswer}
-use Rattle.port.specs.declared.answers.RegionAnswer.{RegionAnswer}
 use Rattle.port.specs.declared.answers.SliceAnswer.{SliceAnswer}
-use Rattle.port.specs.declared.answers.TotalAnswer.{TotalAnswer}
 use Rattle.port.specs.declared.answers.ValuesAnswer.{ValuesAnswer}
 use Rattle.records.specs.Settings.{defaultsOf}
 use Rattle.records.specs.declared.FitAnswer.{FitAnswer}
@@ -39,7 +32,7 @@ use Rattle.text.specs.Place.{placed}
 use lib.Ieee.{Float}
 use lib.ListN.{length}
 use mathlib.Core.Bool.{Bool}
-use mathlib.Core.List.{List}
+use mathlib.Core.List.{List, [], _∷_}
 use mathlib.Core.Path.{_≡_}
 
 -- port::port_default_config
@@ -106,42 +99,42 @@ port-eval slice k h₁ h₂ = settled h₁ h₂
 pub port-check-point : (k : Float) (tau : Float) {r₁ r₂ : ℕ} → (r₁ ≡ pointNumber k tau) → (r₂ ≡ pointNumber k tau) → r₁ ≡ r₂
 port-check-point k tau h₁ h₂ = settled h₁ h₂
 
--- port::port_total
-pub port-total : (w : Float) («w_k» : Float) («w_kk» : Float) («w_tau» : Float) {r₁ r₂ : TotalAnswer} → (r₁ ≡ totalAnswer (totalOf w «w_k» «w_kk» «w_tau»)) → (r₂ ≡ totalAnswer (totalOf w «w_k» «w_kk» «w_tau»)) → r₁ ≡ r₂
-port-total w «w_k» «w_kk» «w_tau» h₁ h₂ = settled h₁ h₂
+-- port::port_raw_total
+pub port-raw-total : (w : Float) («w_k» : Float) («w_kk» : Float) («w_tau» : Float) (total : List Float) {r₁ r₂ : ℕ} {total-exit₁ total-exit₂ : List Float} → ((r₁ ≡ totalAnswer (totalOf w «w_k» «w_kk» «w_tau») .number) × (total-exit₁ ≡ totalRow (totalAnswer (totalOf w «w_k» «w_kk» «w_tau»)))) → ((r₂ ≡ totalAnswer (totalOf w «w_k» «w_kk» «w_tau») .number) × (total-exit₂ ≡ totalRow (totalAnswer (totalOf w «w_k» «w_kk» «w_tau»)))) → (r₁ ≡ r₂) × (total-exit₁ ≡ total-exit₂)
+port-raw-total w «w_k» «w_kk» «w_tau» total {r₁} {r₂} {total-exit₁} {total-exit₂} h₁ h₂ = (cc, cc)
 
 -- port::port_surface
 pub port-surface : (slices : List SviSlice) {r₁ r₂ : ℕ} → (r₁ ≡ checkRun (runOf slices)) → (r₂ ≡ checkRun (runOf slices)) → r₁ ≡ r₂
 port-surface slices h₁ h₂ = settled h₁ h₂
 
--- port::port_bracket
-pub port-bracket : (slices : List SviSlice) (policy : ℕ) (k : Float) (tau : Float) {r₁ r₂ : BracketAnswer} → (r₁ ≡ bracketFor (runOf slices) policy k tau) → (r₂ ≡ bracketFor (runOf slices) policy k tau) → r₁ ≡ r₂
-port-bracket slices policy k tau h₁ h₂ = settled h₁ h₂
+-- port::port_raw_bracket
+pub port-raw-bracket : (slices : List SviSlice) (policy : ℕ) (k : Float) (tau : Float) (places : List ℕ) (x : List Float) {r₁ r₂ : ℕ} {places-exit₁ places-exit₂ : List ℕ} {x-exit₁ x-exit₂ : List Float} → ((r₁ ≡ bracketFor (runOf slices) policy k tau .number) × (places-exit₁ ≡ placesRow (bracketFor (runOf slices) policy k tau)) × (x-exit₁ ≡ bracketFor (runOf slices) policy k tau .x ∷ [])) → ((r₂ ≡ bracketFor (runOf slices) policy k tau .number) × (places-exit₂ ≡ placesRow (bracketFor (runOf slices) policy k tau)) × (x-exit₂ ≡ bracketFor (runOf slices) policy k tau .x ∷ [])) → (r₁ ≡ r₂) × (places-exit₁ ≡ places-exit₂) × (x-exit₁ ≡ x-exit₂)
+port-raw-bracket slices policy k tau places x {r₁} {r₂} {places-exit₁} {places-exit₂} {x-exit₁} {x-exit₂} h₁ h₂ = (cc, cc, cc)
 
--- port::port_region
-pub port-region : (slices : List SviSlice) (policy : ℕ) (k : Float) (tau : Float) {r₁ r₂ : RegionAnswer} → (r₁ ≡ regionFor (runOf slices) policy k tau) → (r₂ ≡ regionFor (runOf slices) policy k tau) → r₁ ≡ r₂
-port-region slices policy k tau h₁ h₂ = settled h₁ h₂
+-- port::port_raw_region
+pub port-raw-region : (slices : List SviSlice) (policy : ℕ) (k : Float) (tau : Float) (calibrated : List ℕ) {r₁ r₂ : ℕ} {calibrated-exit₁ calibrated-exit₂ : List ℕ} → ((r₁ ≡ regionFor (runOf slices) policy k tau .number) × (calibrated-exit₁ ≡ flag (regionFor (runOf slices) policy k tau .calibrated) ∷ [])) → ((r₂ ≡ regionFor (runOf slices) policy k tau .number) × (calibrated-exit₂ ≡ flag (regionFor (runOf slices) policy k tau .calibrated) ∷ [])) → (r₁ ≡ r₂) × (calibrated-exit₁ ≡ calibrated-exit₂)
+port-raw-region slices policy k tau calibrated {r₁} {r₂} {calibrated-exit₁} {calibrated-exit₂} h₁ h₂ = (cc, cc)
 
--- port::port_total_variance
-pub port-total-variance : (slices : List SviSlice) (policy : ℕ) (k : Float) (tau : Float) {r₁ r₂ : TotalAnswer} → (r₁ ≡ totalFor (runOf slices) policy k tau) → (r₂ ≡ totalFor (runOf slices) policy k tau) → r₁ ≡ r₂
-port-total-variance slices policy k tau h₁ h₂ = settled h₁ h₂
+-- port::port_raw_total_variance
+pub port-raw-total-variance : (slices : List SviSlice) (policy : ℕ) (k : Float) (tau : Float) (total : List Float) {r₁ r₂ : ℕ} {total-exit₁ total-exit₂ : List Float} → ((r₁ ≡ totalFor (runOf slices) policy k tau .number) × (total-exit₁ ≡ totalRow (totalFor (runOf slices) policy k tau))) → ((r₂ ≡ totalFor (runOf slices) policy k tau .number) × (total-exit₂ ≡ totalRow (totalFor (runOf slices) policy k tau))) → (r₁ ≡ r₂) × (total-exit₁ ≡ total-exit₂)
+port-raw-total-variance slices policy k tau total {r₁} {r₂} {total-exit₁} {total-exit₂} h₁ h₂ = (cc, cc)
 
--- port::port_covers_nodes
-pub port-covers-nodes : (slices : List SviSlice) (ks : List Float) (taus : List Float) {r₁ r₂ : CoversAnswer} → (r₁ ≡ coversFor (runOf slices) ks taus) → (r₂ ≡ coversFor (runOf slices) ks taus) → r₁ ≡ r₂
-port-covers-nodes slices ks taus h₁ h₂ = settled h₁ h₂
+-- port::port_raw_covers_nodes
+pub port-raw-covers-nodes : (slices : List SviSlice) (ks : List Float) (taus : List Float) (all : List ℕ) {r₁ r₂ : ℕ} {all-exit₁ all-exit₂ : List ℕ} → ((r₁ ≡ coversFor (runOf slices) ks taus .number) × (all-exit₁ ≡ flag (coversFor (runOf slices) ks taus .all) ∷ [])) → ((r₂ ≡ coversFor (runOf slices) ks taus .number) × (all-exit₂ ≡ flag (coversFor (runOf slices) ks taus .all) ∷ [])) → (r₁ ≡ r₂) × (all-exit₁ ≡ all-exit₂)
+port-raw-covers-nodes slices ks taus all {r₁} {r₂} {all-exit₁} {all-exit₂} h₁ h₂ = (cc, cc)
 
--- port::port_diagnose
-pub port-diagnose : (slices : List SviSlice) (policy : ℕ) (ks : List Float) (taus : List Float) (config : DiagnosticsConfig) (room : List Float) {r₁ r₂ : DiagnosedAnswer} {room-exit₁ room-exit₂ : List Float} → ((r₁ ≡ diagnosedFor (runOf slices) policy ks taus config room) × (room-exit₁ ≡ roomFor (runOf slices) policy ks taus config room)) → ((r₂ ≡ diagnosedFor (runOf slices) policy ks taus config room) × (room-exit₂ ≡ roomFor (runOf slices) policy ks taus config room)) → (r₁ ≡ r₂) × (room-exit₁ ≡ room-exit₂)
-port-diagnose slices policy ks taus config room {r₁} {r₂} {room-exit₁} {room-exit₂} h₁ h₂ = (cc, cc)
+-- port::port_raw_diagnose
+pub port-raw-diagnose : (slices : List SviSlice) (policy : ℕ) (ks : List Float) (taus : List Float) («butterfly_tolerance» : Float) («calendar_tolerance» : Float) (room : List Float) (counts : List ℕ) (worst : List Float) {r₁ r₂ : ℕ} {room-exit₁ room-exit₂ : List Float} {counts-exit₁ counts-exit₂ : List ℕ} {worst-exit₁ worst-exit₂ : List Float} → ((r₁ ≡ diagnosedFor (runOf slices) policy ks taus «butterfly_tolerance» «calendar_tolerance» room .number) × (room-exit₁ ≡ roomFor (runOf slices) policy ks taus «butterfly_tolerance» «calendar_tolerance» room) × (counts-exit₁ ≡ diagnosedCounts (diagnosedFor (runOf slices) policy ks taus «butterfly_tolerance» «calendar_tolerance» room)) × (worst-exit₁ ≡ diagnosedWorst (diagnosedFor (runOf slices) policy ks taus «butterfly_tolerance» «calendar_tolerance» room))) → ((r₂ ≡ diagnosedFor (runOf slices) policy ks taus «butterfly_tolerance» «calendar_tolerance» room .number) × (room-exit₂ ≡ roomFor (runOf slices) policy ks taus «butterfly_tolerance» «calendar_tolerance» room) × (counts-exit₂ ≡ diagnosedCounts (diagnosedFor (runOf slices) policy ks taus «butterfly_tolerance» «calendar_tolerance» room)) × (worst-exit₂ ≡ diagnosedWorst (diagnosedFor (runOf slices) policy ks taus «butterfly_tolerance» «calendar_tolerance» room))) → (r₁ ≡ r₂) × (room-exit₁ ≡ room-exit₂) × (counts-exit₁ ≡ counts-exit₂) × (worst-exit₁ ≡ worst-exit₂)
+port-raw-diagnose slices policy ks taus «butterfly_tolerance» «calendar_tolerance» room counts worst {r₁} {r₂} {room-exit₁} {room-exit₂} {counts-exit₁} {counts-exit₂} {worst-exit₁} {worst-exit₂} h₁ h₂ = (cc, cc, cc, cc)
 
--- port::port_check_record
-pub port-check-record : (check : Check) (point : DiagnosticPoint) (tolerance : Float) {check-exit₁ check-exit₂ : Check} → (check-exit₁ ≡ recordedOf check point tolerance) → (check-exit₂ ≡ recordedOf check point tolerance) → check-exit₁ ≡ check-exit₂
-port-check-record check point tolerance {check-exit₁} {check-exit₂} h₁ h₂ = cc
+-- port::port_raw_check_record
+pub port-raw-check-record : (check : Check) (k : Float) (tau : Float) (value : Float) (tolerance : Float) {check-exit₁ check-exit₂ : Check} → (check-exit₁ ≡ recordedOf check (pointAt k tau value) tolerance) → (check-exit₂ ≡ recordedOf check (pointAt k tau value) tolerance) → check-exit₁ ≡ check-exit₂
+port-raw-check-record check k tau value tolerance {check-exit₁} {check-exit₂} h₁ h₂ = cc
 
--- port::port_check_clean
-pub port-check-clean : (check : Check) {r₁ r₂ : Bool} → (r₁ ≡ isClean check) → (r₂ ≡ isClean check) → r₁ ≡ r₂
-port-check-clean check h₁ h₂ = settled h₁ h₂
+-- port::port_raw_check_clean
+pub port-raw-check-clean : (counts : List ℕ) (worst : List Float) {r₁ r₂ : ℕ} → (r₁ ≡ flag (isClean (checkAt 0 counts worst))) → (r₂ ≡ flag (isClean (checkAt 0 counts worst))) → r₁ ≡ r₂
+port-raw-check-clean counts worst h₁ h₂ = settled h₁ h₂
 
--- port::port_report_clean
-pub port-report-clean : (report : SurfaceDiagnostics) {r₁ r₂ : Bool} → (r₁ ≡ reportClean report) → (r₂ ≡ reportClean report) → r₁ ≡ r₂
-port-report-clean report h₁ h₂ = settled h₁ h₂
+-- port::port_raw_report_clean
+pub port-raw-report-clean : (counts : List ℕ) (worst : List Float) {r₁ r₂ : ℕ} → (r₁ ≡ flag (reportClean (reportAt counts worst))) → (r₂ ≡ flag (reportClean (reportAt counts worst))) → r₁ ≡ r₂
+port-raw-report-clean counts worst h₁ h₂ = settled h₁ h₂

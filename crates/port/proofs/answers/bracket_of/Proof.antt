@@ -6,12 +6,13 @@ use Rattle.port.proofs.answers.bracket_of.Tie as tie
 
 returns : tie.Need-returns
 unfolding bracketFor
-returns c = cc
+returns c = (cc, cc, cc)
 
 pub bracket-of-spec : {M : Type 1} → statement M
 bracket-of-spec =
     tie.close
     (tie.spec
+    (λ c κs. search needs)
     (λ c κs. search needs)
     (λ c κs. search needs)
     (λ c κs. search needs)

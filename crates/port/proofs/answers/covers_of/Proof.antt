@@ -6,12 +6,13 @@ use Rattle.port.proofs.answers.covers_of.Tie as tie
 
 returns : tie.Need-returns
 unfolding coversFor
-returns c = cc
+returns c = (cc, cc)
 
 pub covers-of-spec : {M : Type 1} → statement M
 covers-of-spec =
     tie.close
     (tie.spec
+    (λ c κs. search needs)
     (λ c κs. search needs)
     (λ c κs. search needs)
     returns)

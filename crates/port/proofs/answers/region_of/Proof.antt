@@ -6,12 +6,13 @@ use Rattle.port.proofs.answers.region_of.Tie as tie
 
 returns : tie.Need-returns
 unfolding regionFor
-returns c = cc
+returns c = (cc, cc)
 
 pub region-of-spec : {M : Type 1} → statement M
 region-of-spec =
     tie.close
     (tie.spec
+    (λ c κs. search needs)
     (λ c κs. search needs)
     (λ c κs. search needs)
     (λ c κs. search needs)

@@ -6,7 +6,7 @@ use Rattle.port.proofs.answers.total_of.Tie as tie
 
 returns : tie.Need-returns
 unfolding totalFor
-returns c = cc
+returns c = (cc, cc)
 
 pub total-of-spec : {M : Type 1} → statement M
 total-of-spec =

@@ -1,0 +1,23 @@
+-- The rows of a report are read back as that report: what `port_raw_report_clean` says of the rows that `port_raw_diagnose` wrote, it says of the report. Assumes nothing.
+use mathlib.Core.Path.{_≡_, refl, ap}
+use mathlib.Core.Bool.{Bool, true, false, not}
+use lib.Dec.{eqb}
+use Rattle.diagnostics.specs.declared.report.SurfaceDiagnostics.{SurfaceDiagnostics}
+use Rattle.diagnostics.specs.declared.tally.Check.{Check}
+use Rattle.diagnostics.specs.Diagnostics.{reportClean}
+use Rattle.port.specs.declared.answers.DiagnosedAnswer.{DiagnosedAnswer}
+use Rattle.port.specs.Answers.{checkCounts, checkWorst, diagnosedCounts, diagnosedWorst, checkAt, reportAt}
+use Rattle.port.specs.Flag.{flag}
+
+found-back : (b : Bool) → not (eqb (flag b) 0) ≡ b
+found-back true = refl
+found-back false = refl
+
+pub check-back : (c : Check) → checkAt 0 (checkCounts c) (checkWorst c) ≡ c
+check-back c = ap (λ (found : Bool). record { points = c .points; violations = c .violations; worst = record { found = found; at = c .worst .at } }) (found-back (c .worst .found))
+
+pub report-back : (a : DiagnosedAnswer) → reportAt (diagnosedCounts a) (diagnosedWorst a) ≡ a .report
+report-back a = λ i. record { butterfly = check-back (a .report .butterfly) i; «calendar_slope» = check-back (a .report .«calendar_slope») i; «calendar_gap» = check-back (a .report .«calendar_gap») i; «evaluation_failures» = a .report .«evaluation_failures» }
+
+pub clean-back : (a : DiagnosedAnswer) → flag (reportClean (reportAt (diagnosedCounts a) (diagnosedWorst a))) ≡ flag (reportClean (a .report))
+clean-back a = ap (λ (d : SurfaceDiagnostics). flag (reportClean d)) (report-back a)
