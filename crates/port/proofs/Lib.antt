@@ -1,2 +1,4 @@
--- What the function proofs share.
+-- What the function proofs share, and that rows read back.
+pub mod InRows
+pub mod ReadAgain
 pub mod Told
