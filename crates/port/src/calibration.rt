@@ -1,30 +1,115 @@
-// The fit of one slice, for callers outside.
+// The fit of one slice, for callers outside. Settings are two rows: sizes and reals.
 ghost use mathlib.Core.Path.{_≡_};
 ghost use Rattle.records.specs.Settings.{defaultsOf};
-ghost use Rattle.calibrate.specs.Fit.{Fitted};
+ghost use Rattle.port.specs.Rows.{readConfig, sizesRow, realsRow, fitCounts, fitValues};
+ghost use Rattle.port.specs.FitRows.{FittedRows};
 use records::FitAnswer;
 use records::FitConfig;
 
-// The default settings.
-#[no_mangle]
-pub extern "C" fn port_default_config() -> FitConfig
-    ensures { λ r. ⌜ r ≡ defaultsOf ⌝ }
+// ---- rows
+
+fn read_config(sizes: &[usize; 4], reals: &[f64; 7]) -> FitConfig
+    ensures { λ r. ⌜ r ≡ readConfig (now (sizes .entry)) (now (reals .entry)) ⌝ }
 {
-    FitConfig::defaults()
+    FitConfig {
+        grid: sizes[0],
+        refinements: sizes[1],
+        max_recentres: sizes[2],
+        sigma_lo: reals[0],
+        sigma_hi: reals[1],
+        a_min: reals[2],
+        min_observations: sizes[3],
+        max_rmse_vol: reals[3],
+        pivot_tolerance: reals[4],
+        feasibility_tolerance: reals[5],
+        max_weight_ratio: reals[6],
+    }
+}
+
+fn fit_counts(a: FitAnswer) -> [usize; 8]
+    ensures { λ r. ⌜ r ≡ fitCounts a ⌝ }
+{
+    let n = a.counts;
+    [
+        a.observed,
+        a.required,
+        n.passes,
+        n.recentres,
+        n.shrinks,
+        n.cells,
+        n.faces,
+        a.capped,
+    ]
+}
+
+fn fit_values(a: FitAnswer) -> [f64; 14]
+    ensures { λ r. ⌜ r ≡ fitValues a ⌝ }
+{
+    let s = a.slice;
+    [
+        a.rmse_vol,
+        a.max_rmse_vol,
+        s.tau,
+        s.a,
+        s.b,
+        s.rho,
+        s.m,
+        s.sigma,
+        s.k_range.lo,
+        s.k_range.hi,
+        a.objective,
+        a.objective_params,
+        a.lee_margin,
+        a.a_margin,
+    ]
+}
+
+// ---- the exports
+
+// The default settings. sizes: grid, refinements, max_recentres, min_observations; reals: sigma_lo, sigma_hi, a_min, max_rmse_vol, pivot_tolerance, feasibility_tolerance, max_weight_ratio.
+#[no_mangle]
+pub extern "C" fn port_raw_default_config(sizes: &mut [usize; 4], reals: &mut [f64; 7])
+    ensures { λ _. ⌜ now (sizes .exit) ≡ sizesRow defaultsOf ⌝ }
+    ensures { λ _. ⌜ now (reals .exit) ≡ realsRow defaultsOf ⌝ }
+{
+    let c = FitConfig::defaults();
+    *sizes = [c.grid, c.refinements, c.max_recentres, c.min_observations];
+    *reals = [
+        c.sigma_lo,
+        c.sigma_hi,
+        c.a_min,
+        c.max_rmse_vol,
+        c.pivot_tolerance,
+        c.feasibility_tolerance,
+        c.max_weight_ratio,
+    ];
 }
 
 // The fit: room for four residual numbers and one capped position an observation is lent, and written only by an accepted answer.
+// counts: observed, required, passes, recentres, shrinks, cells, faces, capped; values: rmse_vol, max_rmse_vol, the slice's eight, objective, objective_params, lee_margin, a_margin.
 #[no_mangle]
-pub extern "C" fn port_fit_slice(
+pub extern "C" fn port_raw_fit_slice(
     tau: f64,
-    config: FitConfig,
+    sizes: &[usize; 4],
+    reals: &[f64; 7],
     k: &[f64],
     w: &[f64],
     weight: &[f64],
     residuals: &mut [f64],
     capped: &mut [usize],
-) -> FitAnswer
-    ensures { λ r. ⌜ Fitted tau config (now (k .entry)) (now (w .entry)) (now (weight .entry)) (now (residuals .entry)) (now (capped .entry)) r (now (residuals .exit)) (now (capped .exit)) ⌝ }
+    counts: &mut [usize; 8],
+    values: &mut [f64; 14],
+    active: &mut [bool; 7],
+) -> u32
+    ensures { λ r. ⌜ FittedRows tau (now (sizes .entry)) (now (reals .entry)) (now (k .entry)) (now (w .entry)) (now (weight .entry)) (now (residuals .entry)) (now (capped .entry)) r (now (residuals .exit)) (now (capped .exit)) (now (counts .exit)) (now (values .exit)) (now (active .exit)) ⌝ }
 {
-    calibrate::fit_slice(tau, config, k, w, weight, residuals, capped)
+    let config = read_config(sizes, reals);
+    let a = calibrate::fit_slice(tau, config, k, w, weight, residuals, capped);
+    let ns = fit_counts(a);
+    *counts = ns;
+    let vs = fit_values(a);
+    *values = vs;
+    let marks = a.active;
+    *active = marks;
+    a.number
 }

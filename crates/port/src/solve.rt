@@ -1,20 +1,22 @@
 // The solver, and one cell of the search, for callers outside.
 ghost use mathlib.Core.Path.{_≡_};
+ghost use mathlib.Core.List.{[], _∷_};
 ghost use Rattle.solver.specs.Solve.{solveOf};
 ghost use Rattle.cell.specs.Cell.{innerOf};
-use cell::Cell;
+ghost use Rattle.port.specs.Flag.{flag};
+ghost use Rattle.port.specs.Rows.{readLimits, cellValues};
 use cell::Limits;
 
-// m x = rhs in n unknowns: whether there is a solution, and the six numbers of x.
+// m x = rhs in n unknowns: 1 where there is a solution, else 0. m: six rows of six; x: the six numbers of the solution.
 #[no_mangle]
-pub extern "C" fn port_solve(
+pub extern "C" fn port_raw_solve(
     m: &[f64; 36],
     rhs: &[f64; 6],
     n: usize,
     tol: f64,
     x: &mut [f64; 6],
-) -> bool
-    ensures { λ r. ⌜ r ≡ solveOf n (now (m .entry)) (now (rhs .entry)) tol .ok ⌝ }
+) -> u32
+    ensures { λ r. ⌜ r ≡ flag (solveOf n (now (m .entry)) (now (rhs .entry)) tol .ok) ⌝ }
     ensures { λ r. ⌜ now (x .exit) ≡ solveOf n (now (m .entry)) (now (rhs .entry)) tol .x ⌝ }
 {
     let a = *m;
@@ -22,13 +24,44 @@ pub extern "C" fn port_solve(
     let s = solver::solve(a, b, n, tol);
     let y = s.x;
     *x = y;
-    s.ok
+    bits::pick_number(s.ok, 1, 0)
 }
 
-// The cell (m, sigma) over observations k, w and scaled weights t.
-#[no_mangle]
-pub extern "C" fn port_cell(k: &[f64], w: &[f64], t: &[f64], l: Limits, m: f64, sigma: f64) -> Cell
-    ensures { λ r. ⌜ r ≡ innerOf (now (k .entry)) (now (w .entry)) (now (t .entry)) l m sigma ⌝ }
+fn read_limits(row: &[f64; 4]) -> Limits
+    ensures { λ r. ⌜ r ≡ readLimits (now (row .entry)) ⌝ }
 {
-    cell::inner(k, w, t, l, m, sigma)
+    Limits {
+        a_min: row[0],
+        a_max: row[1],
+        pivot_tolerance: row[2],
+        feasibility_tolerance: row[3],
+    }
+}
+
+// The cell (m, sigma) over observations k, w and scaled weights: 1 where a face qualifies, else 0.
+// limits: a_min, a_max, pivot_tolerance, feasibility_tolerance; faces: how many were tried; values: the objective, then x; active: the seven constraints.
+#[no_mangle]
+pub extern "C" fn port_raw_cell(
+    k: &[f64],
+    w: &[f64],
+    scaled: &[f64],
+    limits: &[f64; 4],
+    m: f64,
+    sigma: f64,
+    faces: &mut [usize; 1],
+    values: &mut [f64; 4],
+    active: &mut [bool; 7],
+) -> u32
+    ensures { λ r. ⌜ r ≡ flag (innerOf (now (k .entry)) (now (w .entry)) (now (scaled .entry)) (readLimits (now (limits .entry))) m sigma .some) ⌝ }
+    ensures { λ r. ⌜ now (faces .exit) ≡ innerOf (now (k .entry)) (now (w .entry)) (now (scaled .entry)) (readLimits (now (limits .entry))) m sigma .faces ∷ [] ⌝ }
+    ensures { λ r. ⌜ now (values .exit) ≡ cellValues (innerOf (now (k .entry)) (now (w .entry)) (now (scaled .entry)) (readLimits (now (limits .entry))) m sigma) ⌝ }
+    ensures { λ r. ⌜ now (active .exit) ≡ innerOf (now (k .entry)) (now (w .entry)) (now (scaled .entry)) (readLimits (now (limits .entry))) m sigma .active ⌝ }
+{
+    let c = cell::inner(k, w, scaled, read_limits(limits), m, sigma);
+    *faces = [c.faces];
+    let x = c.x;
+    *values = [c.objective, x[0], x[1], x[2]];
+    let marks = c.active;
+    *active = marks;
+    bits::pick_number(c.some, 1, 0)
 }
