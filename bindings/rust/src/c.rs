@@ -13,7 +13,7 @@ use std::sync::atomic::{AtomicBool, Ordering::Relaxed};
 #[cfg(not(target_pointer_width = "64"))]
 compile_error!("the library counts in 64 bits: usize has to be that wide");
 #[cfg(not(target_endian = "little"))]
-compile_error!("the library reads quotes as little-endian bytes: so have they to stand in memory");
+compile_error!("the library reads quotes as little-endian bytes, and they are handed over as they stand in memory");
 
 // A fixed array or a record crosses as a pointer alone; a slice as a pointer and its count.
 extern "C" {
