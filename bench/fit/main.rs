@@ -20,8 +20,6 @@ mod elementary {
     }
 }
 
-#[path = "../../oracle/src/port/cells.rs"]
-mod cells;
 #[path = "../../oracle/src/counts.rs"]
 mod counts;
 #[path = "../../target/oracle/counted/surface.rs"]
@@ -35,8 +33,8 @@ mod started;
 #[path = "../../oracle/src/types.rs"]
 mod types;
 
-use cells::{Limits, cell, port_solve};
 use house::{House, Record, Settings};
+use kesupayro::c;
 use plain::calibrate::{FitConfig, SliceObservation, inner};
 // Of another copy: a second caller in the plain one would change how its cells are compiled.
 use started::calibrate::solve_linear;
@@ -49,7 +47,6 @@ struct Timespec {
 
 unsafe extern "C" {
     fn clock_gettime(clock: i32, now: &mut Timespec) -> i32;
-    fn port_run(file: *const u8, file_len: usize, out: *mut u8, out_len: usize) -> usize;
 }
 
 /// What callgrind counts: `--toggle-collect=measured_*`.
@@ -63,19 +60,22 @@ extern "C" fn measured_rust(h: &House) {
 #[unsafe(no_mangle)]
 #[inline(never)]
 extern "C" fn measured_port(file: &Vec<u8>, out: &mut Vec<u8>) -> usize {
-    unsafe { port_run(file.as_ptr(), file.len(), out.as_mut_ptr(), out.len()) }
+    c::run(file, out)
 }
 
 #[unsafe(no_mangle)]
 #[inline(never)]
 extern "C" fn measured_rust_cell(c: &OneCell) {
-    black_box(inner(&c.observations, c.m, c.sigma, c.limits.a_max, &c.config));
+    black_box(inner(&c.observations, c.m, c.sigma, c.limits[1], &c.config));
 }
 
 #[unsafe(no_mangle)]
 #[inline(never)]
-extern "C" fn measured_port_cell(c: &OneCell) -> usize {
-    black_box(cell(&c.k, &c.w, &c.t, c.limits, c.m, c.sigma)).faces
+extern "C" fn measured_port_cell(one: &OneCell) -> usize {
+    let (mut faces, mut values, mut active) = ([0], [0.0; 4], [false; 7]);
+    black_box(c::cell(&one.k, &one.w, &one.t, &one.limits, one.m, one.sigma, &mut faces, &mut values, &mut active));
+    black_box((values, active));
+    faces[0]
 }
 
 /// A number from 0 to 1 out of a count, the same on every machine.
@@ -117,7 +117,8 @@ struct OneCell {
     w: Vec<f64>,
     t: Vec<f64>,
     config: FitConfig,
-    limits: Limits,
+    /// As `c::cell` lists them; the second is a_max.
+    limits: [f64; 4],
     m: f64,
     sigma: f64,
 }
@@ -129,7 +130,7 @@ fn one_cell(kind: &str, count: usize) -> OneCell {
     let (k, w, t) = (column(|r| r.k), column(|r| r.w), column(|r| r.weight / 2.0));
     let a_max = w.iter().copied().fold(config.a_min, f64::max);
     let observations = (0..count).map(|i| SliceObservation::new(k[i], w[i], t[i]).expect("a good quote")).collect();
-    let limits = Limits { a_min: config.a_min, a_max, pivot_tolerance: config.pivot_tolerance, feasibility_tolerance: config.feasibility_tolerance };
+    let limits = [config.a_min, a_max, config.pivot_tolerance, config.feasibility_tolerance];
     OneCell { observations, k, w, t, config, limits, m: 0.02, sigma: 0.15 }
 }
 
@@ -232,7 +233,7 @@ fn solves() {
             bare = bare.min(nanos(&|i| _ = black_box(vectors[i].clone())));
             port = port.min(nanos(&|i| {
                 let mut x = [0.0; 6];
-                black_box(port_solve(black_box(&made[i].0), &made[i].1, n, 1e-12, &mut x));
+                black_box(c::solve(black_box(&made[i].0), &made[i].1, n, 1e-12, &mut x));
                 black_box(x);
             }));
         }

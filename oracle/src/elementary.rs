@@ -1,12 +1,7 @@
 //! ln, exp and hypot of the Rust's side: the port's own, or with `use_platform` those of the platform.
 
+use kesupayro::raw;
 use std::sync::atomic::{AtomicBool, Ordering::Relaxed};
-
-unsafe extern "C" {
-    safe fn port_ln(x: f64) -> f64;
-    safe fn port_exp(x: f64) -> f64;
-    safe fn port_hypot(x: f64, y: f64) -> f64;
-}
 
 static PLATFORM: AtomicBool = AtomicBool::new(false);
 
@@ -16,13 +11,13 @@ pub fn use_platform() {
 }
 
 pub fn ln(x: f64) -> f64 {
-    if PLATFORM.load(Relaxed) { x.ln() } else { port_ln(x) }
+    if PLATFORM.load(Relaxed) { x.ln() } else { raw::ln(x) }
 }
 
 pub fn exp(x: f64) -> f64 {
-    if PLATFORM.load(Relaxed) { x.exp() } else { port_exp(x) }
+    if PLATFORM.load(Relaxed) { x.exp() } else { raw::exp(x) }
 }
 
 pub fn hypot(x: f64, y: f64) -> f64 {
-    if PLATFORM.load(Relaxed) { x.hypot(y) } else { port_hypot(x, y) }
+    if PLATFORM.load(Relaxed) { x.hypot(y) } else { raw::hypot(x, y) }
 }

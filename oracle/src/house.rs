@@ -281,7 +281,19 @@ fit_slice_of!(fit_started, started);
 pub struct Answer {
     /// Document 01's number, 0 where accepted.
     pub number: u32,
+    /// As it is printed.
     pub text: String,
+    /// What there is to say of a well-formed file.
+    pub told: Option<Told>,
+}
+
+/// What the Rust says of a well-formed file: the records kept, the verdict on those, and what its search counted.
+#[derive(Debug, Clone)]
+pub struct Told {
+    pub house: House,
+    pub kept: usize,
+    pub verdict: Verdict,
+    pub counts: counts::Counts,
 }
 
 /// Check 11 of the program: grid at most 255, refinements and max_recentres at most 1,000 each.
@@ -330,16 +342,19 @@ pub fn answer_with_repeats(file: &[u8]) -> Answer {
 }
 
 fn answered(file: &[u8], kept: impl Fn(&[Record]) -> Vec<Record>) -> Answer {
-    let Some(house) = read(file) else {
-        return Answer { number: 43, text: "refused 43 0 0\n".to_string() };
-    };
-    let count = house.records.len();
-    let early = |number: u32| Answer { number, text: format!("read {count} kept {count}\nrefused {number} 0 0\n") };
+    match read(file).map(|house| told(house, kept)) {
+        None => Answer { number: 43, text: "refused 43 0 0\n".to_string(), told: None },
+        Some(told) => Answer { number: told.verdict.number(), text: printed(&told), told: Some(told) },
+    }
+}
+
+fn told(house: House, kept: impl Fn(&[Record]) -> Vec<Record>) -> Told {
+    let early = |number: u32, house: House| Told { kept: house.records.len(), house, verdict: Verdict::Refused(number), counts: [0; 5] };
     if house.settings.as_ref().is_some_and(over_a_size) {
-        return early(11);
+        return early(11, house);
     }
     if !house.records.iter().all(good) {
-        return early(10);
+        return early(10, house);
     }
     let kept = kept(&house.records);
     let plain = fit_plain(house.tau, &kept, house.settings.as_ref());
@@ -347,19 +362,21 @@ fn answered(file: &[u8], kept: impl Fn(&[Record]) -> Vec<Record>) -> Answer {
     let counted = fit_counted(house.tau, &kept, house.settings.as_ref());
     let counts = counts::take();
     assert!(plain.same(&counted), "the counted copy of the Rust answers otherwise: {plain:?} {counted:?}");
+    Told { house, kept: kept.len(), verdict: plain, counts }
+}
 
+fn printed(told: &Told) -> String {
     let mut text = String::new();
-    let _ = writeln!(text, "read {count} kept {}", kept.len());
-    let number = plain.number();
-    let search = |text: &mut String| line(text, "search", counts.iter().map(u64::to_string));
-    match plain {
+    let _ = writeln!(text, "read {} kept {}", told.house.records.len(), told.kept);
+    let search = |text: &mut String| line(text, "search", told.counts.iter().map(u64::to_string));
+    match &told.verdict {
         Verdict::Accepted(f) => {
             line(&mut text, "fit", f.slice.map(hex));
             search(&mut text);
             line(&mut text, "margins", f.margins.map(hex));
             line(&mut text, "active", [f.active.iter().map(|a| if *a { '1' } else { '0' }).collect()]);
             line(&mut text, "capped", std::iter::once(f.capped.len()).chain(f.capped.iter().copied()).map(|n| n.to_string()));
-            for p in f.points {
+            for p in &f.points {
                 line(&mut text, "point", p.map(hex));
             }
         }
@@ -368,14 +385,14 @@ fn answered(file: &[u8], kept: impl Fn(&[Record]) -> Vec<Record>) -> Answer {
         }
         Verdict::Rmse(rmse, max) => {
             search(&mut text);
-            line(&mut text, "refused 9", [hex(rmse), hex(max)]);
+            line(&mut text, "refused 9", [hex(*rmse), hex(*max)]);
         }
         Verdict::Refused(n) => {
-            if (6..=8).contains(&n) {
+            if (6..=8).contains(n) {
                 search(&mut text);
             }
             let _ = writeln!(text, "refused {n} 0 0");
         }
     }
-    Answer { number, text }
+    text
 }

@@ -6,24 +6,7 @@ use crate::plain::{TotalVariance, VolSurface, check_point};
 use crate::types::error::MMError;
 
 /// A record as a caller may write it: nothing about it is known.
-#[repr(C)]
-#[derive(Debug, Clone, Copy, PartialEq)]
-pub struct Raw {
-    pub tau: f64,
-    pub a: f64,
-    pub b: f64,
-    pub rho: f64,
-    pub m: f64,
-    pub sigma: f64,
-    pub k_lo: f64,
-    pub k_hi: f64,
-}
-
-impl Raw {
-    pub fn values(&self) -> [f64; 8] {
-        [self.tau, self.a, self.b, self.rho, self.m, self.sigma, self.k_lo, self.k_hi]
-    }
-}
+pub use kesupayro::SviSlice as Raw;
 
 /// Document 01's number of a refusal, by the Rust's own words for it.
 pub fn number_of(text: &str) -> u32 {
@@ -69,7 +52,7 @@ pub fn k_range(lo: f64, hi: f64) -> Asked<KRange> {
 }
 
 pub fn slice(s: &Raw) -> Asked<SviSlice> {
-    let range = k_range(s.k_lo, s.k_hi)?;
+    let range = k_range(s.k_range.lo, s.k_range.hi)?;
     SviSlice::new(s.tau, s.a, s.b, s.rho, s.m, s.sigma, range).map_err(numbered)
 }
 
@@ -213,6 +196,7 @@ pub fn diagnosed(run: &[Raw], constant_vol: bool, ks: &[f64], taus: &[f64], tole
 pub mod made {
     use super::Raw;
     use crate::random::Random;
+    use kesupayro::KRange;
 
     /// A record that is mostly accepted.
     pub fn record(r: &mut Random, tau: f64) -> Raw {
@@ -227,8 +211,7 @@ pub mod made {
             rho,
             m: width * r.between(-0.4, 0.4),
             sigma,
-            k_lo: -width,
-            k_hi: width * r.between(0.2, 1.0),
+            k_range: KRange { lo: -width, hi: width * r.between(0.2, 1.0) },
         };
         match r.below(40) {
             0 => s.rho = r.one_of(&[1.0, -1.0]),
@@ -264,8 +247,8 @@ pub mod made {
             3 => s.rho = x,
             4 => s.m = x,
             5 => s.sigma = x,
-            6 => s.k_lo = x,
-            _ => s.k_hi = x,
+            6 => s.k_range.lo = x,
+            _ => s.k_range.hi = x,
         }
     }
 
@@ -317,14 +300,14 @@ pub mod made {
         }
         let s = run[r.below(run.len())];
         match r.below(10) {
-            0 => s.k_lo,
-            1 => s.k_hi,
-            2 => r.near(s.k_lo, 1),
-            3 => r.near(s.k_hi, 1),
+            0 => s.k_range.lo,
+            1 => s.k_range.hi,
+            2 => r.near(s.k_range.lo, 1),
+            3 => r.near(s.k_range.hi, 1),
             4 => s.m,
             5 => r.near(s.m, 2),
             6 => s.m + s.sigma * r.decades(-3, 12) * r.one_of(&[1.0, -1.0]),
-            _ => r.between(1.5 * s.k_lo, 1.5 * s.k_hi),
+            _ => r.between(1.5 * s.k_range.lo, 1.5 * s.k_range.hi),
         }
     }
 

@@ -1,6 +1,7 @@
-//! The printed answer, read back.
+//! What a fit says: the curve and how it was found, or why there is none.
 
-use crate::{Counts, KRange, SviSlice};
+use crate::raw::{FitAnswer, QuotesAnswer};
+use crate::{Counts, SviSlice};
 use std::fmt;
 
 /// An accepted fit.
@@ -64,10 +65,8 @@ pub enum Refused {
     Rmse { rmse_vol: f64, max_rmse_vol: f64 },
     /// 10: a k, w or weight is not finite, a w below 0, or a weight not above 0.
     BadObservation,
-    /// 11: a setting is too large.
+    /// 11: more than 256 quotes, or a setting is too large.
     Size,
-    /// 43: not a house file (for `fit`: more than 256 quotes).
-    Malformed,
 }
 
 impl fmt::Display for Refused {
@@ -83,84 +82,59 @@ impl fmt::Display for Refused {
             Self::OutOfDomain => write!(f, "the curve found is not a valid slice"),
             Self::Rmse { rmse_vol, max_rmse_vol } => write!(f, "the quotes lie too far from any curve: {rmse_vol} in vol, {max_rmse_vol} allowed"),
             Self::BadObservation => write!(f, "a quote is not usable"),
-            Self::Size => write!(f, "a setting is too large"),
-            Self::Malformed => write!(f, "not a house file"),
+            Self::Size => write!(f, "more than {} quotes, or a setting is too large", crate::MOST_QUOTES),
         }
     }
 }
 
 impl std::error::Error for Refused {}
 
-/// The answer that a printed text holds. The text is the library's own, so a word that is not there is an error of this crate.
-pub(crate) fn parse(text: &str) -> Result<Fit, Refused> {
-    let line = |name: &str| -> Vec<&str> {
-        let found = text.lines().find(|l| l.split(' ').next() == Some(name));
-        found.unwrap_or_else(|| panic!("no line '{name}' in {text:?}")).split(' ').skip(1).collect()
-    };
-    if text.lines().last().is_some_and(|l| l.starts_with("refused ")) {
-        return Err(refused(&line("refused")));
-    }
-    let (read, fit, search, margins) = (line("read"), floats(&line("fit")), line("search"), floats(&line("margins")));
-    let points: Vec<Point> = text
-        .lines()
-        .filter_map(|l| l.strip_prefix("point "))
-        .map(|l| floats(&l.split(' ').collect::<Vec<_>>()))
-        .map(|p| Point { k: p[0], w: p[1], fitted: p[2], residual: p[3] })
-        .collect();
-    let ks = points.iter().map(|p| p.k);
-    let k_range = KRange { lo: ks.clone().fold(f64::INFINITY, f64::min), hi: ks.fold(f64::NEG_INFINITY, f64::max) };
-    let mut active = [false; 7];
-    for (mark, digit) in active.iter_mut().zip(line("active")[0].chars()) {
-        *mark = digit == '1';
-    }
-    Ok(Fit {
-        read: count(read[0]),
-        kept: count(read[2]),
-        slice: SviSlice { tau: fit[0], a: fit[1], b: fit[2], rho: fit[3], m: fit[4], sigma: fit[5], k_range },
-        counts: Counts {
-            passes: count(search[0]),
-            recentres: count(search[1]),
-            shrinks: count(search[2]),
-            cells: count(search[3]),
-            faces: count(search[4]),
-        },
-        objective: margins[0],
-        objective_params: margins[1],
-        lee_margin: margins[2],
-        a_margin: margins[3],
-        rmse_vol: margins[4],
-        active,
-        capped: line("capped")[1..].iter().map(|w| count(w)).collect(),
-        points,
-    })
-}
-
-fn refused(words: &[&str]) -> Refused {
-    match words[0] {
-        "1" => Refused::Settings,
-        "2" => Refused::Tau,
-        "3" => Refused::TooFew { observed: count(words[1]), required: count(words[2]) },
-        "4" => Refused::NoSpan,
-        "5" => Refused::Weights,
-        "6" => Refused::NoFace,
-        "7" => Refused::GridEdge,
-        "8" => Refused::OutOfDomain,
-        "9" => Refused::Rmse { rmse_vol: float(words[1]), max_rmse_vol: float(words[2]) },
-        "10" => Refused::BadObservation,
-        "11" => Refused::Size,
-        "43" => Refused::Malformed,
-        other => panic!("no refusal has the number {other}"),
+impl Fit {
+    /// From an answer and the two buffers that it was lent.
+    pub(crate) fn of(answer: QuotesAnswer, residuals: &[f64], capped: &[usize]) -> Result<Self, Refused> {
+        let QuotesAnswer { read, kept, fit } = answer;
+        if fit.number != 0 {
+            return Err(Refused::of(fit));
+        }
+        Ok(Self {
+            read,
+            kept,
+            slice: fit.slice,
+            counts: fit.counts,
+            objective: fit.objective,
+            objective_params: fit.objective_params,
+            lee_margin: fit.lee_margin,
+            a_margin: fit.a_margin,
+            rmse_vol: fit.rmse_vol,
+            active: fit.active,
+            capped: capped[..fit.capped].to_vec(),
+            points: residuals.chunks_exact(4).take(kept).map(Point::of).collect(),
+        })
     }
 }
 
-fn count<T: std::str::FromStr>(word: &str) -> T {
-    word.parse().unwrap_or_else(|_| panic!("'{word}' is not a count"))
+impl Point {
+    fn of(four: &[f64]) -> Self {
+        Self { k: four[0], w: four[1], fitted: four[2], residual: four[3] }
+    }
 }
 
-fn float(word: &str) -> f64 {
-    f64::from_bits(u64::from_str_radix(word, 16).unwrap_or_else(|_| panic!("'{word}' is not hex digits")))
-}
-
-fn floats(words: &[&str]) -> Vec<f64> {
-    words.iter().map(|w| float(w)).collect()
+impl Refused {
+    /// The refusal of an answer whose number is not 0. 12 cannot come: the buffers that are lent have room for all quotes.
+    fn of(fit: FitAnswer) -> Self {
+        match fit.number {
+            1 => Self::Settings,
+            2 => Self::Tau,
+            3 => Self::TooFew { observed: fit.observed as u64, required: fit.required as u64 },
+            4 => Self::NoSpan,
+            5 => Self::Weights,
+            6 => Self::NoFace,
+            7 => Self::GridEdge,
+            8 => Self::OutOfDomain,
+            9 => Self::Rmse { rmse_vol: fit.rmse_vol, max_rmse_vol: fit.max_rmse_vol },
+            10 => Self::BadObservation,
+            11 => Self::Size,
+            other => panic!("no refusal of quotes has the number {other}"),
+        }
+    }
 }

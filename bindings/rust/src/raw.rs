@@ -1,9 +1,31 @@
 //! The fit, the program's answer and the elementary functions, as the library has them. They neither allocate nor block nor keep a reference.
 
 use crate::c;
+pub use crate::c::{exp, hypot, ln, run, sqrt};
 
 /// Bytes that hold every answer of [`run`].
 pub const MOST_ANSWER: usize = 32768;
+
+/// One quote of an expiry. In memory it is the 32 bytes of a house file's record.
+#[repr(C)]
+#[derive(Debug, Clone, Copy, PartialEq)]
+pub struct Quote {
+    /// The dealer's number of the quote. It does not enter the fit.
+    pub number: u64,
+    /// Log moneyness, ln(strike / forward).
+    pub k: f64,
+    /// Total variance, vol * vol * tau.
+    pub w: f64,
+    /// Weight in the least squares.
+    pub weight: f64,
+}
+
+/// The bytes of quotes as they stand in memory.
+fn bytes(quotes: &[Quote]) -> &[u8] {
+    const _: () = assert!(std::mem::size_of::<Quote>() == 32);
+    // SAFETY: four fields of eight bytes leave no byte between them, every byte may be read as a number, and the borrow is the same.
+    unsafe { std::slice::from_raw_parts(quotes.as_ptr().cast(), std::mem::size_of_val(quotes)) }
+}
 
 /// The range of k of a slice.
 #[repr(C)]
@@ -13,6 +35,16 @@ pub struct KRange {
     pub lo: f64,
     /// Upper end.
     pub hi: f64,
+}
+
+impl KRange {
+    pub(crate) fn row(self) -> [f64; 2] {
+        [self.lo, self.hi]
+    }
+
+    pub(crate) fn of_row([lo, hi]: [f64; 2]) -> Self {
+        Self { lo, hi }
+    }
 }
 
 /// A slice: w(k) = a + b (rho (k - m) + sqrt((k - m)^2 + sigma^2)).
@@ -31,8 +63,20 @@ pub struct SviSlice {
     pub k_range: KRange,
 }
 
+impl SviSlice {
+    /// tau, a, b, rho, m, sigma and the two ends of the k range, in the order in which the library takes them.
+    pub fn row(self) -> [f64; 8] {
+        let [lo, hi] = self.k_range.row();
+        [self.tau, self.a, self.b, self.rho, self.m, self.sigma, lo, hi]
+    }
+
+    /// The slice of a row, untested.
+    pub fn of_row([tau, a, b, rho, m, sigma, lo, hi]: [f64; 8]) -> Self {
+        Self { tau, a, b, rho, m, sigma, k_range: KRange::of_row([lo, hi]) }
+    }
+}
+
 /// The settings of the fit.
-#[repr(C)]
 #[derive(Debug, Clone, Copy, PartialEq)]
 pub struct FitConfig {
     /// Points an axis, 5 to 255.
@@ -59,15 +103,43 @@ pub struct FitConfig {
     pub max_weight_ratio: f64,
 }
 
+impl FitConfig {
+    /// As [`c::default_config`] lists them.
+    fn rows(self) -> ([usize; 4], [f64; 7]) {
+        (
+            [self.grid, self.refinements, self.max_recentres, self.min_observations],
+            [self.sigma_lo, self.sigma_hi, self.a_min, self.max_rmse_vol, self.pivot_tolerance, self.feasibility_tolerance, self.max_weight_ratio],
+        )
+    }
+
+    fn of_rows(sizes: [usize; 4], reals: [f64; 7]) -> Self {
+        let [grid, refinements, max_recentres, min_observations] = sizes;
+        let [sigma_lo, sigma_hi, a_min, max_rmse_vol, pivot_tolerance, feasibility_tolerance, max_weight_ratio] = reals;
+        Self {
+            grid,
+            refinements,
+            max_recentres,
+            sigma_lo,
+            sigma_hi,
+            a_min,
+            min_observations,
+            max_rmse_vol,
+            pivot_tolerance,
+            feasibility_tolerance,
+            max_weight_ratio,
+        }
+    }
+}
+
 impl Default for FitConfig {
     fn default() -> Self {
-        // SAFETY: no argument.
-        unsafe { c::port_default_config() }
+        let (mut sizes, mut reals) = ([0; 4], [0.0; 7]);
+        c::default_config(&mut sizes, &mut reals);
+        Self::of_rows(sizes, reals)
     }
 }
 
 /// What the search did.
-#[repr(C)]
 #[derive(Debug, Clone, Copy, PartialEq, Eq, Default)]
 #[allow(missing_docs)]
 pub struct Counts {
@@ -79,8 +151,7 @@ pub struct Counts {
 }
 
 /// The answer of [`fit_slice`]. Of a refusal every field is 0 but the number, the values that belong to it, and the counts of 6 to 9.
-#[repr(C)]
-#[derive(Debug, Clone, Copy, PartialEq)]
+#[derive(Debug, Clone, Copy, PartialEq, Default)]
 #[allow(missing_docs)]
 pub struct FitAnswer {
     /// 0 for an accepted fit, else the refusal.
@@ -105,60 +176,60 @@ pub struct FitAnswer {
     pub capped: usize,
 }
 
-/// Square root, rounded to nearest.
-pub fn sqrt(x: f64) -> f64 {
-    // SAFETY: by value.
-    unsafe { c::port_sqrt(x) }
-}
-
-/// Hypotenuse, rounded to nearest.
-pub fn hypot(x: f64, y: f64) -> f64 {
-    // SAFETY: by value.
-    unsafe { c::port_hypot(x, y) }
-}
-
-/// Natural logarithm.
-pub fn ln(x: f64) -> f64 {
-    // SAFETY: by value.
-    unsafe { c::port_ln(x) }
-}
-
-/// Exponential.
-pub fn exp(x: f64) -> f64 {
-    // SAFETY: by value.
-    unsafe { c::port_exp(x) }
-}
-
-/// Answers a house file as the program prints it. Returns the whole answer's length; it is written where `out` holds at least that, else nothing is.
-pub fn run(file: &[u8], out: &mut [u8]) -> usize {
-    // SAFETY: each pointer and count is a slice, `out` is lent for this call alone, and the library keeps neither.
-    unsafe { c::port_run(file.as_ptr(), file.len(), out.as_mut_ptr(), out.len()) }
-}
-
-/// Fits a slice to three columns of one length n. An accepted fit writes four numbers for each quote to `residuals` (k, w, fitted w, quoted
-/// minus fitted volatility) and the positions whose weight was capped to `capped`: room for 4 n and n. It drops no repeat: [`crate::fit`] does.
-pub fn fit_slice(tau: f64, config: FitConfig, k: &[f64], w: &[f64], weight: &[f64], residuals: &mut [f64], capped: &mut [usize]) -> FitAnswer {
-    // SAFETY: as in `run`.
-    unsafe {
-        c::port_fit_slice(
-            tau,
-            config,
-            k.as_ptr(),
-            k.len(),
-            w.as_ptr(),
-            w.len(),
-            weight.as_ptr(),
-            weight.len(),
-            residuals.as_mut_ptr(),
-            residuals.len(),
-            capped.as_mut_ptr(),
-            capped.len(),
-        )
+impl FitAnswer {
+    /// From the rows that [`c::fit_slice`] lists.
+    fn of_rows(number: u32, counts: [usize; 8], values: [f64; 14], active: [bool; 7]) -> Self {
+        let [observed, required, passes, recentres, shrinks, cells, faces, capped] = counts;
+        let [rmse_vol, max_rmse_vol, tau, a, b, rho, m, sigma, lo, hi, objective, objective_params, lee_margin, a_margin] = values;
+        Self {
+            number,
+            observed,
+            required,
+            rmse_vol,
+            max_rmse_vol,
+            slice: SviSlice::of_row([tau, a, b, rho, m, sigma, lo, hi]),
+            objective,
+            objective_params,
+            lee_margin,
+            a_margin,
+            active,
+            counts: Counts { passes, recentres, shrinks, cells, faces },
+            capped,
+        }
     }
 }
 
+/// Fits a slice to three columns of one length n. An accepted fit writes four numbers for each quote to `residuals` (k, w, fitted w, quoted
+/// minus fitted volatility) and the positions whose weight was capped to `capped`: room for 4 n and n. It drops no repeat: [`fit_quotes`] does.
+pub fn fit_slice(tau: f64, config: FitConfig, k: &[f64], w: &[f64], weight: &[f64], residuals: &mut [f64], capped: &mut [usize]) -> FitAnswer {
+    let (sizes, reals) = config.rows();
+    let (mut counts, mut values, mut active) = ([0; 8], [0.0; 14], [false; 7]);
+    let number = c::fit_slice(tau, &sizes, &reals, k, w, weight, residuals, capped, &mut counts, &mut values, &mut active);
+    FitAnswer::of_rows(number, counts, values, active)
+}
+
+/// The answer of [`fit_quotes`].
+#[derive(Debug, Clone, Copy, PartialEq)]
+pub struct QuotesAnswer {
+    /// Quotes handed over.
+    pub read: usize,
+    /// Quotes left once repeats were dropped; as many as read where a refusal came before that.
+    pub kept: usize,
+    /// The fit of those.
+    pub fit: FitAnswer,
+}
+
+/// Fits quotes as they came in: one whose k, w and weight equal an earlier one's bit for bit is dropped, then the rest is fitted as by [`fit_slice`],
+/// residuals and capped positions being those of the quotes kept. It wants room for every quote that came in: 4 n and n.
+pub fn fit_quotes(tau: f64, config: FitConfig, quotes: &[Quote], residuals: &mut [f64], capped: &mut [usize]) -> QuotesAnswer {
+    let (sizes, reals) = config.rows();
+    let (mut counts, mut values, mut active) = ([0; 10], [0.0; 14], [false; 7]);
+    let number = c::fit_quotes(tau, &sizes, &reals, bytes(quotes), residuals, capped, &mut counts, &mut values, &mut active);
+    let [read, kept, of_fit @ ..] = counts;
+    QuotesAnswer { read, kept, fit: FitAnswer::of_rows(number, of_fit, values, active) }
+}
+
 /// What a fit fixes for all points of its search.
-#[repr(C)]
 #[derive(Debug, Clone, Copy, PartialEq)]
 #[allow(missing_docs)]
 pub struct Limits {
@@ -168,8 +239,14 @@ pub struct Limits {
     pub feasibility_tolerance: f64,
 }
 
+impl Limits {
+    /// As [`c::cell`] lists them.
+    pub fn row(self) -> [f64; 4] {
+        [self.a_min, self.a_max, self.pivot_tolerance, self.feasibility_tolerance]
+    }
+}
+
 /// One point of the search.
-#[repr(C)]
 #[derive(Debug, Clone, Copy, PartialEq)]
 pub struct Cell {
     /// Whether a face qualifies.
@@ -187,13 +264,13 @@ pub struct Cell {
 /// Solves m x = rhs in n unknowns, 1 to 6: the first n rows and columns of a 6 by 6 matrix, row by row.
 pub fn solve(m: &[f64; 36], rhs: &[f64; 6], n: usize, tol: f64) -> Option<[f64; 6]> {
     let mut x = [0.0; 6];
-    // SAFETY: arrays of the lengths that the library takes, and `x` is lent for this call alone.
-    let ok = unsafe { c::port_solve(m.as_ptr(), rhs.as_ptr(), n, tol, x.as_mut_ptr()) };
-    ok.then_some(x)
+    (c::solve(m, rhs, n, tol, &mut x) != 0).then_some(x)
 }
 
 /// The point (m, sigma) of the search over at most 256 quotes, three columns of one length; else nothing qualifies and no face is tried.
 pub fn cell(k: &[f64], w: &[f64], scaled: &[f64], limits: Limits, m: f64, sigma: f64) -> Cell {
-    // SAFETY: each pointer and count is a slice, and the library keeps none.
-    unsafe { c::port_cell(k.as_ptr(), k.len(), w.as_ptr(), w.len(), scaled.as_ptr(), scaled.len(), limits, m, sigma) }
+    let (mut faces, mut values, mut active) = ([0], [0.0; 4], [false; 7]);
+    let some = c::cell(k, w, scaled, &limits.row(), m, sigma, &mut faces, &mut values, &mut active) != 0;
+    let ([faces], [objective, x @ ..]) = (faces, values);
+    Cell { some, objective, x, active, faces }
 }

@@ -54,15 +54,14 @@ fn answered<T>(number: u32, value: T) -> Result<T, Refusal> {
 impl KRange {
     /// A range; refused as 21 unless both ends are finite and lo is at most hi.
     pub fn new(lo: f64, hi: f64) -> Result<Self, Refusal> {
-        // SAFETY: by value.
-        let r = unsafe { c::port_k_range(lo, hi) };
-        answered(r.number, r.range)
+        let mut range = [0.0; 2];
+        let number = c::k_range(lo, hi, &mut range);
+        answered(number, Self::of_row(range))
     }
 
     /// Whether k is inside, ends included.
     pub fn contains(self, k: f64) -> bool {
-        // SAFETY: by value.
-        unsafe { c::port_contains(self, k) }
+        c::contains(&self.row(), k) != 0
     }
 }
 
@@ -75,38 +74,43 @@ pub struct Values {
     pub w_kk: f64,
 }
 
+impl Values {
+    fn of_row([w, w_k, w_kk]: [f64; 3]) -> Self {
+        Self { w, w_k, w_kk }
+    }
+}
+
 impl SviSlice {
     /// A slice that passed its tests (21 to 28: the k range is tested too, since its fields are public).
     pub fn new(tau: f64, a: f64, b: f64, rho: f64, m: f64, sigma: f64, k_range: KRange) -> Result<Self, Refusal> {
-        // SAFETY: by value.
-        let r = unsafe { c::port_slice(tau, a, b, rho, m, sigma, k_range) };
-        answered(r.number, r.slice)
+        let mut slice = [0.0; 8];
+        let number = c::slice(tau, a, b, rho, m, sigma, &k_range.row(), &mut slice);
+        answered(number, Self::of_row(slice))
     }
 
     /// The smallest total variance.
     pub fn minimum(self) -> Result<f64, Refusal> {
-        // SAFETY: by value.
-        let r = unsafe { c::port_minimum(self) };
-        answered(r.number, r.value)
+        let mut value = [0.0];
+        let number = c::minimum(&self.row(), &mut value);
+        answered(number, value[0])
     }
 
     /// b (1 + |rho|).
     pub fn lee_slope(self) -> Result<f64, Refusal> {
-        // SAFETY: by value.
-        let r = unsafe { c::port_lee_slope(self) };
-        answered(r.number, r.value)
+        let mut value = [0.0];
+        let number = c::lee_slope(&self.row(), &mut value);
+        answered(number, value[0])
     }
 
     /// The curve at k.
     pub fn eval(self, k: f64) -> Result<Values, Refusal> {
-        // SAFETY: by value.
-        let r = unsafe { c::port_eval(self, k) };
-        answered(r.number, Values { w: r.w, w_k: r.w_k, w_kk: r.w_kk })
+        let mut values = [0.0; 3];
+        let number = c::eval(&self.row(), k, &mut values);
+        answered(number, Values::of_row(values))
     }
 }
 
 /// Total variance at a point, with dw/dk, d2w/dk2 and dw/dtau.
-#[repr(C)]
 #[derive(Debug, Clone, Copy, PartialEq)]
 #[allow(missing_docs)]
 pub struct TotalVariance {
@@ -119,16 +123,19 @@ pub struct TotalVariance {
 impl TotalVariance {
     /// Refused as 38 or 39 unless w is finite and above 0 and the rest finite.
     pub fn new(w: f64, w_k: f64, w_kk: f64, w_tau: f64) -> Result<Self, Refusal> {
-        // SAFETY: by value.
-        let r = unsafe { c::port_total(w, w_k, w_kk, w_tau) };
-        answered(r.number, r.total)
+        let mut total = [0.0; 4];
+        let number = c::total(w, w_k, w_kk, w_tau, &mut total);
+        answered(number, Self::of_row(total))
+    }
+
+    fn of_row([w, w_k, w_kk, w_tau]: [f64; 4]) -> Self {
+        Self { w, w_k, w_kk, w_tau }
     }
 }
 
 /// Refused as 34 or 35 unless k is finite and tau finite and above 0.
 pub fn check_point(k: f64, tau: f64) -> Result<(), Refusal> {
-    // SAFETY: by value.
-    answered(unsafe { c::port_check_point(k, tau) }, ())
+    answered(c::check_point(k, tau), ())
 }
 
 /// What stands before the first expiry.
@@ -151,6 +158,16 @@ pub enum Bracket {
     Segment { lo: usize, hi: usize, x: f64 },
 }
 
+impl Bracket {
+    fn of_rows([below, lo, hi]: [usize; 3], [x]: [f64; 1]) -> Self {
+        if below != 0 {
+            Self::Short
+        } else {
+            Self::Segment { lo, hi, x }
+        }
+    }
+}
+
 /// 2 to 32 slices with rising tau, borrowed. They are tested by every call again.
 #[derive(Debug, Clone, Copy)]
 pub struct Surface<'a> {
@@ -161,9 +178,7 @@ pub struct Surface<'a> {
 impl<'a> Surface<'a> {
     /// Refused as 11, 21 to 28, 32 or 33.
     pub fn new(slices: &'a [SviSlice], policy: Policy) -> Result<Self, Refusal> {
-        // SAFETY: the pointer and count are a slice, and the library does not keep it. So below.
-        let number = unsafe { c::port_surface(slices.as_ptr(), slices.len()) };
-        answered(number, Self { slices, policy })
+        answered(c::surface(slices), Self { slices, policy })
     }
 
     fn policy(&self) -> u32 {
@@ -175,51 +190,39 @@ impl<'a> Surface<'a> {
 
     /// Which slices answer at tau.
     pub fn bracket(&self, k: f64, tau: f64) -> Result<Bracket, Refusal> {
-        // SAFETY: as in `new`.
-        let r = unsafe { c::port_bracket(self.slices.as_ptr(), self.slices.len(), self.policy(), k, tau) };
-        answered(r.number, if r.below { Bracket::Short } else { Bracket::Segment { lo: r.lo, hi: r.hi, x: r.x } })
+        let (mut places, mut x) = ([0; 3], [0.0]);
+        let number = c::bracket(self.slices, self.policy(), k, tau, &mut places, &mut x);
+        answered(number, Bracket::of_rows(places, x))
     }
 
     /// Whether the point is between two slices whose k ranges both hold k.
     pub fn calibrated(&self, k: f64, tau: f64) -> Result<bool, Refusal> {
-        // SAFETY: as in `new`.
-        let r = unsafe { c::port_region(self.slices.as_ptr(), self.slices.len(), self.policy(), k, tau) };
-        answered(r.number, r.calibrated)
+        let mut calibrated = [0];
+        let number = c::region(self.slices, self.policy(), k, tau, &mut calibrated);
+        answered(number, calibrated[0] != 0)
     }
 
     /// Total variance at a point.
     pub fn total_variance(&self, k: f64, tau: f64) -> Result<TotalVariance, Refusal> {
-        // SAFETY: as in `new`.
-        let r = unsafe { c::port_total_variance(self.slices.as_ptr(), self.slices.len(), self.policy(), k, tau) };
-        answered(r.number, r.total)
+        let mut total = [0.0; 4];
+        let number = c::total_variance(self.slices, self.policy(), k, tau, &mut total);
+        answered(number, TotalVariance::of_row(total))
     }
 
     /// Whether the tau axis of a grid holds the tau of every slice.
     pub fn covers_nodes(&self, ks: &[f64], taus: &[f64]) -> Result<bool, Refusal> {
-        // SAFETY: as in `new`.
-        let r = unsafe { c::port_covers_nodes(self.slices.as_ptr(), self.slices.len(), ks.as_ptr(), ks.len(), taus.as_ptr(), taus.len()) };
-        answered(r.number, r.all)
+        let mut all = [0];
+        let number = c::covers_nodes(self.slices, ks, taus, &mut all);
+        answered(number, all[0] != 0)
     }
 
     /// Tests the surface for arbitrage on a grid. Failures are written to `room`, three numbers each (k, tau, refusal), in walking order: room for
     /// three times every grid point.
     pub fn diagnose(&self, ks: &[f64], taus: &[f64], config: DiagnosticsConfig, room: &mut [f64]) -> Result<SurfaceDiagnostics, Refusal> {
-        // SAFETY: as in `new`, and `room` is lent for this call alone.
-        let r = unsafe {
-            c::port_diagnose(
-                self.slices.as_ptr(),
-                self.slices.len(),
-                self.policy(),
-                ks.as_ptr(),
-                ks.len(),
-                taus.as_ptr(),
-                taus.len(),
-                config,
-                room.as_mut_ptr(),
-                room.len(),
-            )
-        };
-        answered(r.number, r.report)
+        let (mut counts, mut worst) = ([0; 10], [0.0; 9]);
+        let DiagnosticsConfig { butterfly_tolerance, calendar_tolerance } = config;
+        let number = c::diagnose(self.slices, self.policy(), ks, taus, butterfly_tolerance, calendar_tolerance, room, &mut counts, &mut worst);
+        answered(number, SurfaceDiagnostics::of_rows(counts, worst))
     }
 }
 
@@ -256,19 +259,27 @@ pub struct Check {
 impl Check {
     /// Counts one more point.
     pub fn record(&mut self, point: DiagnosticPoint, tolerance: f64) {
-        // SAFETY: `self` is lent for this call alone, and the library does not keep it.
-        unsafe { c::port_check_record(self, point, tolerance) }
+        c::check_record(self, point.k, point.tau, point.value, tolerance);
     }
 
     /// No violation.
     pub fn is_clean(self) -> bool {
-        // SAFETY: by value.
-        unsafe { c::port_check_clean(self) }
+        let (counts, worst) = self.rows();
+        c::check_clean(&counts, &worst) != 0
+    }
+
+    /// As [`c::check_clean`] lists them.
+    fn rows(self) -> ([usize; 3], [f64; 3]) {
+        let DiagnosticPoint { k, tau, value } = self.worst.at;
+        ([self.points, self.violations, usize::from(self.worst.found)], [k, tau, value])
+    }
+
+    fn of_rows([points, violations, found]: [usize; 3], [k, tau, value]: [f64; 3]) -> Self {
+        Self { points, violations, worst: Worst { found: found != 0, at: DiagnosticPoint { k, tau, value } } }
     }
 }
 
 /// Tolerances of the tests.
-#[repr(C)]
 #[derive(Debug, Clone, Copy, PartialEq)]
 #[allow(missing_docs)]
 pub struct DiagnosticsConfig {
@@ -283,7 +294,6 @@ impl Default for DiagnosticsConfig {
 }
 
 /// The tallies of a grid, and how many of its points failed.
-#[repr(C)]
 #[derive(Debug, Clone, Copy, PartialEq)]
 #[allow(missing_docs)]
 pub struct SurfaceDiagnostics {
@@ -296,7 +306,23 @@ pub struct SurfaceDiagnostics {
 impl SurfaceDiagnostics {
     /// No violation and no failure.
     pub fn is_clean(self) -> bool {
-        // SAFETY: by value.
-        unsafe { c::port_report_clean(self) }
+        let (counts, worst) = self.rows();
+        c::report_clean(&counts, &worst) != 0
+    }
+
+    /// As [`c::diagnose`] lists them.
+    fn rows(self) -> ([usize; 10], [f64; 9]) {
+        let (mut counts, mut worst) = ([self.evaluation_failures; 10], [0.0; 9]);
+        for (i, check) in [self.butterfly, self.calendar_slope, self.calendar_gap].into_iter().enumerate() {
+            let (three, at) = check.rows();
+            counts[3 * i..][..3].copy_from_slice(&three);
+            worst[3 * i..][..3].copy_from_slice(&at);
+        }
+        (counts, worst)
+    }
+
+    fn of_rows(counts: [usize; 10], worst: [f64; 9]) -> Self {
+        let check = |i: usize| Check::of_rows([counts[i], counts[i + 1], counts[i + 2]], [worst[i], worst[i + 1], worst[i + 2]]);
+        Self { butterfly: check(0), calendar_slope: check(3), calendar_gap: check(6), evaluation_failures: counts[9] }
     }
 }

@@ -1,6 +1,6 @@
 //! The library through the safe functions: good and bad input.
 
-use kesupayro::{answer, fit, house, raw, FitConfig, Quote, Refused};
+use kesupayro::{abi, answer, c, fit, raw, FitConfig, Quote, Refused, ABI, MOST_QUOTES};
 
 /// Nine quotes off a smile.
 fn smile() -> Vec<Quote> {
@@ -64,9 +64,12 @@ fn every_refusal_has_its_case() {
     };
     let refused = |tau, c: Option<&FitConfig>, q: &[Quote]| fit(tau, c, q).unwrap_err();
     assert_eq!(refused(0.5, Some(&set(|c| c.grid = 4)), &good), Refused::Settings);
+    assert_eq!(refused(0.5, Some(&set(|c| c.a_min = f64::NAN)), &good), Refused::Settings);
     assert_eq!(refused(f64::NAN, None, &good), Refused::Tau);
     assert_eq!(refused(0.5, None, &good[..4]), Refused::TooFew { observed: 4, required: 5 });
+    assert_eq!(refused(0.5, None, &[]), Refused::TooFew { observed: 0, required: 5 });
     assert_eq!(refused(0.5, Some(&set(|c| c.min_observations = usize::MAX)), &[]), Refused::TooFew { observed: 0, required: u64::MAX });
+    assert_eq!(refused(0.5, None, &[good[0]; MOST_QUOTES]), Refused::TooFew { observed: 1, required: 5 });
     assert_eq!(refused(0.5, None, &with(|q| q.k = 0.1)), Refused::NoSpan);
     assert_eq!(refused(0.5, None, &with(|q| q.weight = if q.number == 300 { 5e-324 } else { 1e300 })), Refused::Weights);
     assert_eq!(refused(0.5, None, &with(|q| q.w = if q.number % 2 == 0 { 2e200 } else { 1e200 })), Refused::NoFace);
@@ -75,28 +78,44 @@ fn every_refusal_has_its_case() {
         matches!(refused(0.5, Some(&set(|c| c.max_rmse_vol = 1e-9)), &good), Refused::Rmse { rmse_vol, max_rmse_vol } if rmse_vol > max_rmse_vol)
     );
     assert_eq!(refused(0.5, None, &with(|q| q.w = -1.0)), Refused::BadObservation);
+    let not_numbers: [fn(&mut Quote); 3] = [|q| q.k = f64::NAN, |q| q.w = f64::NAN, |q| q.weight = f64::NAN];
+    assert!(not_numbers.iter().all(|change| refused(0.5, None, &with(*change)) == Refused::BadObservation));
     assert_eq!(refused(0.5, Some(&set(|c| c.grid = 256)), &good), Refused::Size);
-    assert_eq!(refused(0.5, None, &vec![good[0]; 257]), Refused::Malformed);
+    assert_eq!(refused(0.5, None, &[good[0]; MOST_QUOTES + 1]), Refused::Size);
     assert_eq!(refused(0.5, None, &good[..4]).to_string(), "too few quotes: 4 left, 5 needed");
 }
 
 #[test]
-fn the_printed_example_of_the_rules() {
-    let nine = [Quote { number: 7, k: 0.0, w: 0.25, weight: 1.0 }; 9];
-    let file = house(0.25, None, &nine);
-    let mut by_hand = vec![0, 0, 0, 0, 1, 0, 0, 0, 0, 0, 0, 0, 0, 0, 0xd0, 0x3f, 9, 0, 0, 0];
-    for _ in 0..9 {
-        by_hand.extend([7, 0, 0, 0, 0, 0, 0, 0, 0, 0, 0, 0, 0, 0, 0, 0, 0, 0, 0, 0, 0, 0, 0xd0, 0x3f, 0, 0, 0, 0, 0, 0, 0xf0, 0x3f]);
+fn short_room_for_a_fit_is_left_as_it_was() {
+    let (quotes, config) = (smile(), FitConfig::default());
+    for (four, one) in [(35, 9), (36, 8), (0, 0)] {
+        let (mut residuals, mut capped) = (vec![-7.0; four], vec![77; one]);
+        let answer = raw::fit_quotes(0.5, config, &quotes, &mut residuals, &mut capped);
+        assert_eq!(answer, raw::QuotesAnswer { read: 9, kept: 9, fit: raw::FitAnswer { number: 12, ..Default::default() } });
+        assert!(residuals.iter().all(|x| *x == -7.0) && capped.iter().all(|n| *n == 77));
     }
-    assert_eq!(file, by_hand);
+    // Bytes that are not whole quotes, which only the export itself can be handed.
+    let (mut sizes, mut reals) = ([0; 4], [0.0; 7]);
+    c::default_config(&mut sizes, &mut reals);
+    let (mut counts, mut values, mut active) = ([7; 10], [7.0; 14], [true; 7]);
+    let number = c::fit_quotes(0.5, &sizes, &reals, &[0; 33], &mut [0.0; 8], &mut [0; 2], &mut counts, &mut values, &mut active);
+    assert_eq!((number, counts, values, active), (12, [0; 10], [0.0; 14], [false; 7]));
+}
+
+#[test]
+fn the_printed_example_of_the_rules() {
+    let mut file = vec![0, 0, 0, 0, 1, 0, 0, 0, 0, 0, 0, 0, 0, 0, 0xd0, 0x3f, 9, 0, 0, 0];
+    for _ in 0..9 {
+        file.extend([7, 0, 0, 0, 0, 0, 0, 0, 0, 0, 0, 0, 0, 0, 0, 0, 0, 0, 0, 0, 0, 0, 0xd0, 0x3f, 0, 0, 0, 0, 0, 0, 0xf0, 0x3f]);
+    }
     assert_eq!(answer(&file), "read 9 kept 1\nrefused 3 1 5\n");
     assert_eq!(answer(&file[1..]), "refused 43 0 0\n");
     assert_eq!(answer(&[]), "refused 43 0 0\n");
 }
 
 #[test]
-fn short_room_is_left_as_it_was() {
-    let file = house(0.25, None, &[]);
+fn short_room_for_an_answer_is_left_as_it_was() {
+    let file = [0, 0, 0, 0, 1, 0, 0, 0, 0, 0, 0, 0, 0, 0, 0xd0, 0x3f, 0, 0, 0, 0];
     let whole = answer(&file).len();
     let mut out = [b'#'; 64];
     assert_eq!(raw::run(&file, &mut out[..whole - 1]), whole);
@@ -108,7 +127,8 @@ fn short_room_is_left_as_it_was() {
 fn settings_of_their_own() {
     let c = FitConfig::default();
     assert_eq!((c.grid, c.refinements, c.max_recentres, c.min_observations), (21, 12, 40, 5));
-    assert_eq!(house(1.0, Some(&c), &[]).len(), 108);
+    assert_eq!((c.sigma_lo, c.sigma_hi, c.a_min, c.max_rmse_vol), (0.005, 10.0, 1e-8, 0.02));
+    assert_eq!((c.pivot_tolerance, c.feasibility_tolerance, c.max_weight_ratio), (1e-12, 1e-12, 10.0));
     assert_eq!(fit(0.5, Some(&c), &smile()), fit(0.5, None, &smile()));
 }
 
@@ -116,4 +136,9 @@ fn settings_of_their_own() {
 fn elementary_functions() {
     assert_eq!((raw::sqrt(2.25), raw::hypot(3.0, 4.0), raw::ln(1.0), raw::exp(0.0)), (1.5, 5.0, 0.0, 1.0));
     assert!(raw::sqrt(-1.0).is_nan() && raw::ln(-1.0).is_nan() && raw::exp(f64::NAN).is_nan());
+}
+
+#[test]
+fn the_abi_number() {
+    assert_eq!((abi(), ABI), (1, 1));
 }

@@ -1,13 +1,13 @@
-//! Runs the port and the Rust on house files and compares every printed value.
+//! Runs the port and the Rust on house files and compares every printed value; then hands the port the records without a file, and compares every place of that answer.
 
 use oracle::rule::{Kind, Outcome};
 use oracle::{house, made, port, rule, work};
 use std::collections::BTreeMap;
 
 const HOW: &str = "oracle/compare [--platform] [--jobs J] FOLDER|FILE..
-    the port beside the Rust on every NAME.house; exit status 1 where something differs
+    the port beside the Rust on every NAME.house, as a file and as quotes; exit status 1 where something differs
     --platform   the Rust with the platform's ln, exp and hypot: differences are counted by class, exit status 0
-    --stored     the port beside the stored NAME.answer (where there is one), without the Rust
+    --stored     the port beside the stored NAME.answer (where there is one), without the Rust; files alone
     --all        every difference, not the first 20";
 
 fn name_of(path: &std::path::Path) -> String {
@@ -38,22 +38,31 @@ fn main() {
     let most = if words.has("all") { usize::MAX } else { 20 };
 
     let (mut accepted, mut refused) = (0_usize, BTreeMap::<u32, usize>::new());
-    let (mut equal, mut zeros, mut different) = (0_usize, 0_usize, 0_usize);
+    let (mut quotes, mut equal, mut zeros, mut different) = (0_usize, 0_usize, 0_usize, 0_usize);
     let mut by_kind = BTreeMap::<Kind, usize>::new();
     let mut by_class = BTreeMap::<&str, [usize; 5]>::new();
     let progress = work::Progress::new("files", files.len());
     let one = |i: usize| {
         let bytes = std::fs::read(&files[i]).unwrap_or_else(|e| stop(format!("{}: {e}", files[i].display())));
-        let rust = if stored {
+        let port = port::run(&bytes);
+        if stored {
             let path = files[i].with_extension("answer");
-            std::fs::read(&path).unwrap_or_else(|e| stop(format!("{}: {e}", path.display())))
-        } else {
-            house::answer(&bytes).text.into_bytes()
-        };
-        let number = std::str::from_utf8(&rust).ok().and_then(rule::number).unwrap_or(u32::MAX);
-        (number, rule::compare(&port::run(&bytes), &rust))
+            let rust = std::fs::read(&path).unwrap_or_else(|e| stop(format!("{}: {e}", path.display())));
+            let number = std::str::from_utf8(&rust).ok().and_then(rule::number).unwrap_or(u32::MAX);
+            return (number, false, rule::compare(&port, &rust));
+        }
+        let rust = house::answer(&bytes);
+        let mut outcome = rule::compare(&port, rust.text.as_bytes());
+        if !matches!(outcome, Outcome::Different(_))
+            && let Some(told) = &rust.told
+            && let Some(d) = port::quotes::difference(&bytes, told)
+        {
+            outcome = Outcome::Different(d);
+        }
+        (rust.number, rust.told.is_some(), outcome)
     };
-    work::each(files.len(), jobs, one, |i, (number, outcome)| {
+    work::each(files.len(), jobs, one, |i, (number, as_quotes, outcome)| {
+        quotes += usize::from(as_quotes);
         if number == 0 {
             accepted += 1;
         }
@@ -87,7 +96,7 @@ fn main() {
         (false, true) => "the Rust with the platform's ln, exp and hypot",
         (false, false) => "the Rust",
     };
-    println!("{} files in {:.0} s, the port beside {side}", files.len(), progress.seconds());
+    println!("{} files, {quotes} of them as quotes too, in {:.0} s, the port beside {side}", files.len(), progress.seconds());
     println!("accepted {accepted}, refused {} ({})", files.len() - accepted, numbers(&refused));
     println!("equal {equal} ({zeros} of them but for a zero's sign), different {different}");
     if different > 0 {

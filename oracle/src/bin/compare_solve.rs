@@ -1,7 +1,8 @@
 //! The solver and single cells of the search: the port beside the Rust, on systems where pivots tie and on data where faces do.
 
+use kesupayro::c;
+use kesupayro::raw::{self, Limits};
 use oracle::counted::calibrate::{FitConfig, SliceObservation, inner};
-use oracle::port::cells::{self as port, Limits};
 use oracle::random::Random;
 use oracle::{counts, plain, rule, work};
 
@@ -47,10 +48,10 @@ fn system(r: &mut Random, n: usize) -> ([f64; 36], [f64; 6], f64) {
     (m, rhs, tol)
 }
 
-/// What the port wrote of six unknowns, where it says that it solved them.
-fn solution(m: &[f64; 36], rhs: &[f64; 6], n: usize, tol: f64) -> (bool, [f64; 6]) {
+/// Whether the port says that it solved a system, 1 or 0, and what it wrote of six unknowns.
+fn solution(m: &[f64; 36], rhs: &[f64; 6], n: usize, tol: f64) -> (u32, [f64; 6]) {
     let mut x = [7.0; 6];
-    (port::port_solve(m, rhs, n, tol, &mut x), x)
+    (c::solve(m, rhs, n, tol, &mut x), x)
 }
 
 fn solved(r: &mut Random) -> (bool, Option<String>) {
@@ -61,7 +62,7 @@ fn solved(r: &mut Random) -> (bool, Option<String>) {
     let (ok, x) = solution(&m, &rhs, n, tol);
     let found = rust.as_deref().unwrap_or(&[]);
     // Beyond the solution, and where there is none, the port leaves zeros.
-    let same = ok == rust.is_some() && x.iter().zip(found).all(|(a, b)| rule::same_float(*a, *b)) && x[found.len()..].iter().all(|v| v.to_bits() == 0);
+    let same = ok == u32::from(rust.is_some()) && x.iter().zip(found).all(|(a, b)| rule::same_float(*a, *b)) && x[found.len()..].iter().all(|v| v.to_bits() == 0);
     let wrong = (!same).then(|| format!("system {n} {m:?} {rhs:?} {tol:e}: port {ok} {x:?} rust {rust:?}"));
     (rust.is_some(), wrong)
 }
@@ -103,7 +104,7 @@ fn cell(r: &mut Random) -> (bool, Option<String>) {
     let rust = inner(&data, m, sigma, a_max, &config);
     let faces = counts::take()[4] as usize;
     let limits = Limits { a_min, a_max, pivot_tolerance, feasibility_tolerance };
-    let port = port::cell(&k, &w, &t, limits, m, sigma);
+    let port = raw::cell(&k, &w, &t, limits, m, sigma);
     let same = port.faces == faces
         && match &rust {
             None => !port.some,
@@ -120,11 +121,11 @@ fn cell(r: &mut Random) -> (bool, Option<String>) {
 
 /// What only the port can be asked: sizes that it refuses, columns of unequal or too great length.
 fn out_of_range() -> usize {
-    let sizes = [0, 7, 8, usize::MAX].into_iter().filter(|n| solution(&[1.0; 36], &[1.0; 6], *n, 1e-12) != (false, [0.0; 6]));
+    let sizes = [0, 7, 8, usize::MAX].into_iter().filter(|n| solution(&[1.0; 36], &[1.0; 6], *n, 1e-12) != (0, [0.0; 6]));
     let column = [0.0; 257];
     let limits = Limits { a_min: 0.1, a_max: 1.0, pivot_tolerance: 1e-12, feasibility_tolerance: 1e-12 };
     let lengths = [[257; 3], [5, 4, 5], [5, 5, 6]].into_iter().filter(|[k, w, t]| {
-        let c = port::cell(&column[..*k], &column[..*w], &column[..*t], limits, 0.0, 1.0);
+        let c = raw::cell(&column[..*k], &column[..*w], &column[..*t], limits, 0.0, 1.0);
         c.some || c.faces != 0
     });
     let (sizes, lengths): (Vec<_>, Vec<_>) = (sizes.collect(), lengths.collect());

@@ -14,6 +14,11 @@ const HOW: &str = "oracle/compare-surface [--seed S] [--count N] [--jobs J] [--p
 /// Points asked of each surface.
 const POINTS: usize = 20;
 
+/// Both policies as numbers, of the `i`-th question: every number but 1 is Reject.
+fn policies(i: usize) -> [(u32, bool); 2] {
+    [([0, 2, 0, u32::MAX][i % 4], false), (1, true)]
+}
+
 /// What a surface showed: questions by function, answers by number, and what differs.
 #[derive(Default)]
 struct Shown {
@@ -88,11 +93,11 @@ fn slices(r: &mut Random, run: &[Raw], shown: &mut Shown) {
         if r.once_in(3) {
             made::spoil(r, &mut s);
         }
-        let range = rust::k_range(s.k_lo, s.k_hi);
-        shown.ask("k_range", || format!("{s:?}"), port::k_range(s.k_lo, s.k_hi), said(range.map(|g| [g.lo(), g.hi()])));
+        let range = rust::k_range(s.k_range.lo, s.k_range.hi);
+        shown.ask("k_range", || format!("{s:?}"), port::k_range(s.k_range.lo, s.k_range.hi), said(range.map(|g| [g.lo(), g.hi()])));
         if let Ok(range) = range {
             let k = made::k(r, run);
-            shown.ask("contains", || format!("{s:?} {k:e}"), port::contains(s.k_lo, s.k_hi, k), yes(Ok(range.contains(k))));
+            shown.ask("contains", || format!("{s:?} {k:e}"), port::contains(s.k_range.lo, s.k_range.hi, k), yes(Ok(range.contains(k))));
         }
         let made = rust::slice(&s).map(|t| [t.tau(), t.a(), t.b(), t.rho(), t.m(), t.sigma(), t.k_range().lo(), t.k_range().hi()]);
         shown.ask("slice", || format!("{s:?}"), port::slice(&s), said(made));
@@ -107,14 +112,14 @@ fn slices(r: &mut Random, run: &[Raw], shown: &mut Shown) {
 
 fn points(r: &mut Random, run: &[Raw], shown: &mut Shown) {
     shown.ask("surface", || format!("{run:?}"), port::surface(run), number(rust::surface(run, false)));
-    for _ in 0..POINTS {
+    for i in 0..POINTS {
         let (k, tau) = (made::k(r, run), made::tau(r, run));
         shown.ask("check_point", || format!("{k:e} {tau:e}"), port::check_point(k, tau), number(rust::point(k, tau)));
-        for vol in [false, true] {
-            let question = || format!("{run:?} {vol} {k:e} {tau:e}");
-            shown.ask("bracket", question, port::bracket(run, vol, k, tau), placed(rust::bracket(run, vol, k, tau)));
-            shown.ask("region", question, port::region(run, vol, k, tau), yes(rust::region(run, vol, k, tau)));
-            shown.ask("total_variance", question, port::total_variance(run, vol, k, tau), said(rust::total_variance(run, vol, k, tau)));
+        for (policy, vol) in policies(i) {
+            let question = || format!("{run:?} {policy} {k:e} {tau:e}");
+            shown.ask("bracket", question, port::bracket(run, policy, k, tau), placed(rust::bracket(run, vol, k, tau)));
+            shown.ask("region", question, port::region(run, policy, k, tau), yes(rust::region(run, vol, k, tau)));
+            shown.ask("total_variance", question, port::total_variance(run, policy, k, tau), said(rust::total_variance(run, vol, k, tau)));
         }
     }
     for _ in 0..4 {
@@ -127,12 +132,12 @@ fn points(r: &mut Random, run: &[Raw], shown: &mut Shown) {
 }
 
 fn grids(r: &mut Random, run: &[Raw], shown: &mut Shown) {
-    for _ in 0..2 {
+    for i in 0..2 {
         let (ks, taus) = (made::ks(r, run), made::taus(r, run));
         shown.ask("covers_nodes", || format!("{run:?} {ks:?} {taus:?}"), port::covers_nodes(run, &ks, &taus), yes(rust::covers_nodes(run, &ks, &taus)));
         let tolerances = made::tolerances(r);
         let need = 3 * ks.len() * taus.len();
-        for vol in [false, true] {
+        for (policy, vol) in policies(i) {
             let room = match r.below(6) {
                 0 => need.saturating_sub(1),
                 1 => r.below(need + 1),
@@ -140,8 +145,8 @@ fn grids(r: &mut Random, run: &[Raw], shown: &mut Shown) {
                 _ => need,
             };
             let before: Vec<f64> = (0..room).map(|i| 1000.0 + i as f64).collect();
-            let question = || format!("{run:?} {vol} {ks:?} {taus:?} {tolerances:?} room {room}");
-            let port = port::diagnose(run, vol, &ks, &taus, tolerances, &before);
+            let question = || format!("{run:?} {policy} {ks:?} {taus:?} {tolerances:?} room {room}");
+            let port = port::diagnose(run, policy, &ks, &taus, tolerances, &before);
             let rust = reported(rust::diagnosed(run, vol, &ks, &taus, tolerances, room), &before);
             shown.ask("diagnose", question, port, rust);
         }

@@ -1,4 +1,4 @@
-//! Damaged house files through the linked port, each compared with the Rust, with canaries around every buffer.
+//! Damaged house files through the linked port, each compared with the Rust, with canaries around every buffer; those still well formed as quotes too.
 
 use oracle::random::Random;
 use oracle::rule::Outcome;
@@ -55,9 +55,11 @@ impl Lent {
     }
 }
 
-/// What one file showed: the Rust's number, the faces that its search tried, the rooms that the port was given, and what was wrong.
+/// What one file showed: the Rust's number, whether it was handed over as quotes too, the faces that its search tried, the rooms that the port was given,
+/// and what was wrong.
 struct Shown {
     number: u32,
+    as_quotes: bool,
     faces: u64,
     rooms: Vec<usize>,
     wrong: Option<String>,
@@ -67,7 +69,7 @@ struct Shown {
 fn call(r: &mut Random, file: &[u8], room: usize, want: &[u8]) -> Option<String> {
     let input = Lent::new(r.below(8), file.iter().copied());
     let mut out = Lent::room(r.below(8), room);
-    let size = port::run_into(input.lent(), out.lent_mut());
+    let size = kesupayro::raw::run(input.lent(), out.lent_mut());
     if input.lent() != file || !input.guarded() {
         return Some(format!("room {room}: the file was changed"));
     }
@@ -114,7 +116,10 @@ fn one(seed: u64, i: u64) -> (Vec<u8>, Shown) {
     let faces = faces(&answer.text);
     let rooms = rooms(r, want.len(), faces);
     let wrong = rooms.iter().find_map(|&room| call(r, &file, room, want));
-    (file, Shown { number: answer.number, faces, rooms, wrong })
+    let of_quotes = || answer.told.as_ref().and_then(|told| port::quotes::difference(&file, told));
+    let wrong = wrong.or_else(|| of_quotes().map(|d| format!("{}: {}", d.kind.words(), d.first)));
+    let as_quotes = answer.told.is_some();
+    (file, Shown { number: answer.number, as_quotes, faces, rooms, wrong })
 }
 
 fn main() {
@@ -130,12 +135,13 @@ fn main() {
         std::fs::create_dir_all(folder).unwrap_or_else(|e| stop(format!("{folder}: {e}")));
     }
     let mut by_number = BTreeMap::<u32, usize>::new();
-    let (mut calls, mut wrong, mut every, mut searched) = (0, 0, 0, 0);
+    let (mut calls, mut quotes, mut wrong, mut every, mut searched) = (0, 0, 0, 0, 0);
     let mut tried = Vec::<usize>::new();
     let progress = work::Progress::new("files", count);
     work::each(count, jobs, |i| one(seed, i as u64), |i, (file, shown)| {
         *by_number.entry(shown.number).or_default() += 1;
         calls += shown.rooms.len();
+        quotes += usize::from(shown.as_quotes);
         if shown.rooms[0] == 0 {
             every += 1;
             searched += usize::from(shown.faces > 0);
@@ -158,7 +164,7 @@ fn main() {
     progress.end();
     let accepted = by_number.remove(&0).unwrap_or(0);
     let refused: Vec<String> = by_number.iter().map(|(n, c)| format!("{n}: {c}")).collect();
-    println!("seed {seed}: {count} damaged files, {calls} calls of the port in {:.0} s", progress.seconds());
+    println!("seed {seed}: {count} damaged files, {calls} calls of the port, {quotes} files as quotes too, in {:.0} s", progress.seconds());
     println!("every room from 0 to two more than enough: {every} files, {searched} of them after a search; each of the sizes 0 to {} at least once", tried.iter().take_while(|&&n| n > 0).count() - 1);
     println!("accepted {accepted}, refused {} ({})", count - accepted, refused.join(", "));
     println!("wrong {wrong}");

@@ -1,6 +1,9 @@
 //! The port's slices, points, surfaces and diagnostics.
 
+use super::{COUNT, FLOAT};
 use crate::surfaces::{Raw, Tally};
+use kesupayro::c;
+use kesupayro::surface::{Check, DiagnosticPoint, Worst};
 
 /// What one side says: document 01's number (0 for none), counts and positions, floats.
 #[derive(Debug, Clone)]
@@ -18,250 +21,102 @@ impl std::fmt::Display for Said {
     }
 }
 
-#[repr(C)]
-#[derive(Clone, Copy)]
-struct Range {
-    lo: f64,
-    hi: f64,
-}
-
-#[repr(C)]
-struct RangeAnswer {
-    number: u32,
-    range: Range,
-}
-
-#[repr(C)]
-struct SliceAnswer {
-    number: u32,
-    slice: Raw,
-}
-
-#[repr(C)]
-struct LevelAnswer {
-    number: u32,
-    value: f64,
-}
-
-#[repr(C)]
-struct ValuesAnswer {
-    number: u32,
-    values: [f64; 3],
-}
-
-#[repr(C)]
-struct TotalAnswer {
-    number: u32,
-    total: [f64; 4],
-}
-
-#[repr(C)]
-struct BracketAnswer {
-    number: u32,
-    below: bool,
-    lo: usize,
-    hi: usize,
-    x: f64,
-}
-
-#[repr(C)]
-struct RegionAnswer {
-    number: u32,
-    calibrated: bool,
-}
-
-#[repr(C)]
-struct CoversAnswer {
-    number: u32,
-    all: bool,
-}
-
-#[repr(C)]
-#[derive(Clone, Copy)]
-struct Point {
-    k: f64,
-    tau: f64,
-    value: f64,
-}
-
-#[repr(C)]
-#[derive(Clone, Copy)]
-struct Check {
-    points: usize,
-    violations: usize,
-    found: bool,
-    worst: Point,
-}
-
-#[repr(C)]
-#[derive(Clone, Copy)]
-struct Diagnostics {
-    checks: [Check; 3],
-    failures: usize,
-}
-
-#[repr(C)]
-struct DiagnosedAnswer {
-    number: u32,
-    report: Diagnostics,
-}
-
-#[repr(C)]
-struct Config {
-    butterfly_tolerance: f64,
-    calendar_tolerance: f64,
-}
-
-unsafe extern "C" {
-    safe fn port_k_range(lo: f64, hi: f64) -> RangeAnswer;
-    safe fn port_contains(range: Range, k: f64) -> bool;
-    safe fn port_slice(tau: f64, a: f64, b: f64, rho: f64, m: f64, sigma: f64, range: Range) -> SliceAnswer;
-    safe fn port_minimum(slice: Raw) -> LevelAnswer;
-    safe fn port_lee_slope(slice: Raw) -> LevelAnswer;
-    safe fn port_eval(slice: Raw, k: f64) -> ValuesAnswer;
-    safe fn port_check_point(k: f64, tau: f64) -> u32;
-    safe fn port_total(w: f64, w_k: f64, w_kk: f64, w_tau: f64) -> TotalAnswer;
-    fn port_surface(slices: *const Raw, count: usize) -> u32;
-    fn port_bracket(slices: *const Raw, count: usize, policy: u32, k: f64, tau: f64) -> BracketAnswer;
-    fn port_region(slices: *const Raw, count: usize, policy: u32, k: f64, tau: f64) -> RegionAnswer;
-    fn port_total_variance(slices: *const Raw, count: usize, policy: u32, k: f64, tau: f64) -> TotalAnswer;
-    fn port_covers_nodes(slices: *const Raw, count: usize, ks: *const f64, k_count: usize, taus: *const f64, tau_count: usize) -> CoversAnswer;
-    fn port_diagnose(
-        slices: *const Raw,
-        count: usize,
-        policy: u32,
-        ks: *const f64,
-        k_count: usize,
-        taus: *const f64,
-        tau_count: usize,
-        config: Config,
-        room: *mut f64,
-        room_count: usize,
-    ) -> DiagnosedAnswer;
-    safe fn port_check_record(check: &mut Check, point: Point, tolerance: f64);
-    safe fn port_check_clean(check: Check) -> bool;
-    safe fn port_report_clean(report: Diagnostics) -> bool;
-}
-
 fn said(number: u32, counts: &[usize], floats: &[f64]) -> Said {
     Said { number, counts: counts.to_vec(), floats: floats.to_vec() }
 }
 
 pub fn k_range(lo: f64, hi: f64) -> Said {
-    let a = port_k_range(lo, hi);
-    said(a.number, &[], &[a.range.lo, a.range.hi])
+    let mut range = [FLOAT; 2];
+    said(c::k_range(lo, hi, &mut range), &[], &range)
 }
 
 pub fn contains(lo: f64, hi: f64, k: f64) -> Said {
-    said(0, &[usize::from(port_contains(Range { lo, hi }, k))], &[])
+    said(0, &[c::contains(&[lo, hi], k) as usize], &[])
 }
 
 pub fn slice(s: &Raw) -> Said {
-    let a = port_slice(s.tau, s.a, s.b, s.rho, s.m, s.sigma, Range { lo: s.k_lo, hi: s.k_hi });
-    said(a.number, &[], &a.slice.values())
+    let mut slice = [FLOAT; 8];
+    said(c::slice(s.tau, s.a, s.b, s.rho, s.m, s.sigma, &[s.k_range.lo, s.k_range.hi], &mut slice), &[], &slice)
 }
 
 pub fn minimum(s: &Raw) -> Said {
-    let a = port_minimum(*s);
-    said(a.number, &[], &[a.value])
+    let mut value = [FLOAT];
+    said(c::minimum(&s.row(), &mut value), &[], &value)
 }
 
 pub fn lee_slope(s: &Raw) -> Said {
-    let a = port_lee_slope(*s);
-    said(a.number, &[], &[a.value])
+    let mut value = [FLOAT];
+    said(c::lee_slope(&s.row(), &mut value), &[], &value)
 }
 
 pub fn eval(s: &Raw, k: f64) -> Said {
-    let a = port_eval(*s, k);
-    said(a.number, &[], &a.values)
+    let mut values = [FLOAT; 3];
+    said(c::eval(&s.row(), k, &mut values), &[], &values)
 }
 
 pub fn check_point(k: f64, tau: f64) -> Said {
-    said(port_check_point(k, tau), &[], &[])
+    said(c::check_point(k, tau), &[], &[])
 }
 
-pub fn total(v: [f64; 4]) -> Said {
-    let a = port_total(v[0], v[1], v[2], v[3]);
-    said(a.number, &[], &a.total)
+pub fn total([w, w_k, w_kk, w_tau]: [f64; 4]) -> Said {
+    let mut total = [FLOAT; 4];
+    said(c::total(w, w_k, w_kk, w_tau, &mut total), &[], &total)
 }
-
-/// ConstantVol is 1, Reject every other number.
-fn policy(constant_vol: bool) -> u32 {
-    u32::from(constant_vol)
-}
-
-// SAFETY, for all below: each pointer goes with the length of its slice, and the port keeps none.
 
 pub fn surface(run: &[Raw]) -> Said {
-    said(unsafe { port_surface(run.as_ptr(), run.len()) }, &[], &[])
+    said(c::surface(run), &[], &[])
 }
 
-pub fn bracket(run: &[Raw], constant_vol: bool, k: f64, tau: f64) -> Said {
-    let a = unsafe { port_bracket(run.as_ptr(), run.len(), policy(constant_vol), k, tau) };
-    said(a.number, &[usize::from(a.below), a.lo, a.hi], &[a.x])
+/// 1 is ConstantVol, every other policy Reject.
+pub fn bracket(run: &[Raw], policy: u32, k: f64, tau: f64) -> Said {
+    let (mut places, mut x) = ([COUNT; 3], [FLOAT]);
+    said(c::bracket(run, policy, k, tau, &mut places, &mut x), &places, &x)
 }
 
-pub fn region(run: &[Raw], constant_vol: bool, k: f64, tau: f64) -> Said {
-    let a = unsafe { port_region(run.as_ptr(), run.len(), policy(constant_vol), k, tau) };
-    said(a.number, &[usize::from(a.calibrated)], &[])
+pub fn region(run: &[Raw], policy: u32, k: f64, tau: f64) -> Said {
+    let mut calibrated = [COUNT];
+    said(c::region(run, policy, k, tau, &mut calibrated), &calibrated, &[])
 }
 
-pub fn total_variance(run: &[Raw], constant_vol: bool, k: f64, tau: f64) -> Said {
-    let a = unsafe { port_total_variance(run.as_ptr(), run.len(), policy(constant_vol), k, tau) };
-    said(a.number, &[], &a.total)
+pub fn total_variance(run: &[Raw], policy: u32, k: f64, tau: f64) -> Said {
+    let mut total = [FLOAT; 4];
+    said(c::total_variance(run, policy, k, tau, &mut total), &[], &total)
 }
 
 pub fn covers_nodes(run: &[Raw], ks: &[f64], taus: &[f64]) -> Said {
-    let a = unsafe { port_covers_nodes(run.as_ptr(), run.len(), ks.as_ptr(), ks.len(), taus.as_ptr(), taus.len()) };
-    said(a.number, &[usize::from(a.all)], &[])
+    let mut all = [COUNT];
+    said(c::covers_nodes(run, ks, taus, &mut all), &all, &[])
 }
 
 fn check_of(t: Tally) -> Check {
     let [k, tau, value] = t.worst.unwrap_or([0.0; 3]);
-    Check { points: t.points, violations: t.violations, found: t.worst.is_some(), worst: Point { k, tau, value } }
+    Check { points: t.points, violations: t.violations, worst: Worst { found: t.worst.is_some(), at: DiagnosticPoint { k, tau, value } } }
 }
 
-fn tally_of(c: &Check, counts: &mut Vec<usize>, floats: &mut Vec<f64>) {
-    counts.extend([c.points, c.violations, usize::from(c.found)]);
-    floats.extend([c.worst.k, c.worst.tau, c.worst.value]);
+fn tally_of(check: &Check) -> ([usize; 3], [f64; 3]) {
+    let DiagnosticPoint { k, tau, value } = check.worst.at;
+    ([check.points, check.violations, usize::from(check.worst.found)], [k, tau, value])
 }
 
-pub fn check_record(t: Tally, at: [f64; 3], tolerance: f64) -> Said {
+pub fn check_record(t: Tally, [k, tau, value]: [f64; 3], tolerance: f64) -> Said {
     let mut check = check_of(t);
-    port_check_record(&mut check, Point { k: at[0], tau: at[1], value: at[2] }, tolerance);
-    let mut out = said(0, &[], &[]);
-    tally_of(&check, &mut out.counts, &mut out.floats);
-    out
+    c::check_record(&mut check, k, tau, value, tolerance);
+    let (counts, worst) = tally_of(&check);
+    said(0, &counts, &worst)
 }
 
 pub fn check_clean(t: Tally) -> Said {
-    said(0, &[usize::from(port_check_clean(check_of(t)))], &[])
+    let (counts, worst) = tally_of(&check_of(t));
+    said(0, &[c::check_clean(&counts, &worst) as usize], &[])
 }
 
 /// The tallies, the failures, whether the report is clean, and the whole room as the port left it, which was `before`.
-pub fn diagnose(run: &[Raw], constant_vol: bool, ks: &[f64], taus: &[f64], tolerances: [f64; 2], before: &[f64]) -> Said {
+pub fn diagnose(run: &[Raw], policy: u32, ks: &[f64], taus: &[f64], [butterfly, calendar]: [f64; 2], before: &[f64]) -> Said {
     let mut room = before.to_vec();
-    let config = Config { butterfly_tolerance: tolerances[0], calendar_tolerance: tolerances[1] };
-    let a = unsafe {
-        port_diagnose(
-            run.as_ptr(),
-            run.len(),
-            policy(constant_vol),
-            ks.as_ptr(),
-            ks.len(),
-            taus.as_ptr(),
-            taus.len(),
-            config,
-            room.as_mut_ptr(),
-            room.len(),
-        )
-    };
-    let mut out = said(a.number, &[], &[]);
-    for c in &a.report.checks {
-        tally_of(c, &mut out.counts, &mut out.floats);
-    }
-    out.counts.push(a.report.failures);
-    out.counts.push(usize::from(port_report_clean(a.report)));
+    let (mut counts, mut worst) = ([COUNT; 10], [FLOAT; 9]);
+    let number = c::diagnose(run, policy, ks, taus, butterfly, calendar, &mut room, &mut counts, &mut worst);
+    let mut out = said(number, &counts, &worst);
+    out.counts.push(c::report_clean(&counts, &worst) as usize);
     out.floats.extend(room);
     out
 }
