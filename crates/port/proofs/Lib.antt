@@ -1,6 +1,4 @@
--- What the function proofs share, and that rows read back.
+-- What the function proofs share; and that rows read back.
 pub mod InRows
-pub mod ReadAgain
 pub mod Told
--- Theorems.
 pub mod RowsReadBack

@@ -1,4 +1,4 @@
--- The rows of a report are read back as that report: what `port_raw_report_clean` says of the rows that `port_raw_diagnose` wrote, it says of the report. Assumes nothing.
+-- What is written to rows reads back as it was: a range, a slice, settings, a check, a report. So `port_raw_report_clean` says of the rows that `port_raw_diagnose` wrote what it says of the report. Assumes nothing.
 use mathlib.Core.Path.{_≡_, refl, ap}
 use mathlib.Core.Bool.{Bool, true, false, not}
 use lib.Dec.{eqb}
@@ -8,6 +8,22 @@ use Rattle.diagnostics.specs.Diagnostics.{reportClean}
 use Rattle.port.specs.declared.answers.DiagnosedAnswer.{DiagnosedAnswer}
 use Rattle.port.specs.Answers.{checkCounts, checkWorst, diagnosedCounts, diagnosedWorst, checkAt, reportAt}
 use Rattle.port.specs.Flag.{flag}
+use Rattle.slice.specs.declared.KRange.{KRange}
+use Rattle.slice.specs.declared.SviSlice.{SviSlice}
+use Rattle.records.specs.declared.FitConfig.{FitConfig}
+use Rattle.port.specs.Rows.{readRange, readSlice, readConfig, rangeRow, sliceRow, sizesRow, realsRow}
+
+pub range-back : (r : KRange) → readRange (rangeRow r) ≡ r
+unfolding readRange
+range-back r = refl
+
+pub slice-back : (s : SviSlice) → readSlice (sliceRow s) ≡ s
+unfolding readSlice
+slice-back s = refl
+
+pub config-back : (c : FitConfig) → readConfig (sizesRow c) (realsRow c) ≡ c
+unfolding readConfig
+config-back c = refl
 
 found-back : (b : Bool) → not (eqb (flag b) 0) ≡ b
 found-back true = refl
