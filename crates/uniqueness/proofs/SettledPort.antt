@@ -11,20 +11,14 @@ use Rattle.exponent.specs.Exp.{expOf}
 use Rattle.exponent.specs.Ln.{lnOf}
 use Rattle.laws.proofs.Choices.{settled}
 use Rattle.point.specs.Point.{pointNumber, totalOf}
-use Rattle.port.specs.Answers.{bracketFor, checkAt, coversFor, diagnosedCounts, diagnosedFor, diagnosedWorst, levelAnswer, placesRow, rangeAnswer, regionFor, reportAt, roomFor, sliceAnswer, totalAnswer, totalFor, totalRow, valuesAnswer}
+use Rattle.port.specs.Answers.{bracketFor, checkAt, coversFor, diagnosedCounts, diagnosedFor, diagnosedWorst, placesRow, regionFor, reportAt, roomFor, totalAnswer, totalFor, totalRow}
 use Rattle.port.specs.Flag.{flag}
-use Rattle.port.specs.declared.answers.LevelAnswer.{LevelAnswer}
-use Rattle.port.specs.declared.answers.RangeAnswer.{RangeAnswer}
-use Rattle.port.specs.declared.answers.SliceAnswer.{SliceAnswer}
-use Rattle.port.specs.declared.answers.ValuesAnswer.{ValuesAnswer}
 use Rattle.records.specs.Settings.{defaultsOf}
 use Rattle.records.specs.declared.FitAnswer.{FitAnswer}
 use Rattle.records.specs.declared.FitConfig.{FitConfig}
 use Rattle.roots.specs.Hypot.{hypotOf}
 use Rattle.roots.specs.Root.{rootOf}
 use Rattle.run.specs.Answer.{answerOf}
-use Rattle.slice.specs.Slice.{evalOf, holdsK, leeSlopeOf, madeOf, minimumOf, rangedOf}
-use Rattle.slice.specs.declared.KRange.{KRange}
 use Rattle.slice.specs.declared.SviSlice.{SviSlice}
 use Rattle.solver.specs.Solve.{solveOf}
 use Rattle.surface.specs.Runs.{checkRun, runOf}
@@ -70,30 +64,6 @@ port-solve m rhs n tol x {r₁} {r₂} {x-exit₁} {x-exit₂} h₁ h₂ = (cc, 
 -- port::port_cell
 pub port-cell : (k : List Float) (w : List Float) (t : List Float) (l : Limits) (m : Float) (sigma : Float) {r₁ r₂ : Cell} → (r₁ ≡ innerOf k w t l m sigma) → (r₂ ≡ innerOf k w t l m sigma) → r₁ ≡ r₂
 port-cell k w t l m sigma h₁ h₂ = settled h₁ h₂
-
--- port::port_k_range
-pub port-k-range : (lo : Float) (hi : Float) {r₁ r₂ : RangeAnswer} → (r₁ ≡ rangeAnswer (rangedOf lo hi)) → (r₂ ≡ rangeAnswer (rangedOf lo hi)) → r₁ ≡ r₂
-port-k-range lo hi h₁ h₂ = settled h₁ h₂
-
--- port::port_contains
-pub port-contains : (range : KRange) (k : Float) {r₁ r₂ : Bool} → (r₁ ≡ holdsK range k) → (r₂ ≡ holdsK range k) → r₁ ≡ r₂
-port-contains range k h₁ h₂ = settled h₁ h₂
-
--- port::port_slice
-pub port-slice : (tau : Float) (a : Float) (b : Float) (rho : Float) (m : Float) (sigma : Float) (range : KRange) {r₁ r₂ : SliceAnswer} → (r₁ ≡ sliceAnswer (madeOf tau a b rho m sigma range)) → (r₂ ≡ sliceAnswer (madeOf tau a b rho m sigma range)) → r₁ ≡ r₂
-port-slice tau a b rho m sigma range h₁ h₂ = settled h₁ h₂
-
--- port::port_minimum
-pub port-minimum : (slice : SviSlice) {r₁ r₂ : LevelAnswer} → (r₁ ≡ levelAnswer (minimumOf slice)) → (r₂ ≡ levelAnswer (minimumOf slice)) → r₁ ≡ r₂
-port-minimum slice h₁ h₂ = settled h₁ h₂
-
--- port::port_lee_slope
-pub port-lee-slope : (slice : SviSlice) {r₁ r₂ : LevelAnswer} → (r₁ ≡ levelAnswer (leeSlopeOf slice)) → (r₂ ≡ levelAnswer (leeSlopeOf slice)) → r₁ ≡ r₂
-port-lee-slope slice h₁ h₂ = settled h₁ h₂
-
--- port::port_eval
-pub port-eval : (slice : SviSlice) (k : Float) {r₁ r₂ : ValuesAnswer} → (r₁ ≡ valuesAnswer (evalOf slice k)) → (r₂ ≡ valuesAnswer (evalOf slice k)) → r₁ ≡ r₂
-port-eval slice k h₁ h₂ = settled h₁ h₂
 
 -- port::port_check_point
 pub port-check-point : (k : Float) (tau : Float) {r₁ r₂ : ℕ} → (r₁ ≡ pointNumber k tau) → (r₂ ≡ pointNumber k tau) → r₁ ≡ r₂
