@@ -12,16 +12,16 @@ use Rattle.calibrate.specs.Fit.{fitOf, residualsOf}
 use Rattle.port.specs.Rows.{readConfig, fitCounts, fitValues}
 
 -- the fit under settings in rows, into the room that is lent
-unfoldable pub fitFor : Float → List ℕ → List Float → List Float → List Float → List Float → List Float → List ℕ → FitAnswer
-fitFor tau sizes reals ks ws ts residuals capped = fitOf tau (readConfig sizes reals) ks ws ts (length residuals) (length capped)
+unfoldable pub fitUnder : Float → List ℕ → List Float → List Float → List Float → List Float → List Float → List ℕ → FitAnswer
+fitUnder tau sizes reals ks ws ts residuals capped = fitOf tau (readConfig sizes reals) ks ws ts (length residuals) (length capped)
 
 -- the contract of `port_raw_fit_slice`: the number r and the rows of the answer; an accepted one writes its residuals and its capped positions, a refusal neither
 pub record FittedRows
     (tau : Float) (sizes : List ℕ) (reals ks ws ts residuals : List Float) (capped : List ℕ)
     (r : ℕ) (residuals′ : List Float) (capped′ counts : List ℕ) (values : List Float) (active : List Bool) : Type 0 where
-  pub numbered : r ≡ fitFor tau sizes reals ks ws ts residuals capped .number
-  pub left : residuals′ ≡ written r (residualsOf (fitFor tau sizes reals ks ws ts residuals capped .slice) ks ws) residuals
+  pub numbered : r ≡ fitUnder tau sizes reals ks ws ts residuals capped .number
+  pub left : residuals′ ≡ written r (residualsOf (fitUnder tau sizes reals ks ws ts residuals capped .slice) ks ws) residuals
   pub listed : capped′ ≡ written r (cappedOf (readConfig sizes reals .«max_weight_ratio») ts) capped
-  pub counted : counts ≡ fitCounts (fitFor tau sizes reals ks ws ts residuals capped)
-  pub valued : values ≡ fitValues (fitFor tau sizes reals ks ws ts residuals capped)
-  pub marked : active ≡ fitFor tau sizes reals ks ws ts residuals capped .active
+  pub counted : counts ≡ fitCounts (fitUnder tau sizes reals ks ws ts residuals capped)
+  pub valued : values ≡ fitValues (fitUnder tau sizes reals ks ws ts residuals capped)
+  pub marked : active ≡ fitUnder tau sizes reals ks ws ts residuals capped .active
