@@ -5,14 +5,6 @@ use Prim.Native.Nat.{ℕ}
 use lib.Dec.{eqb}
 use lib.Ieee.{Float}
 use Rattle.laws.specs.Floats.{+0}
-use Rattle.slice.specs.declared.Ranged.{Ranged}
-use Rattle.slice.specs.declared.Ranged.the-variants as ranged
-use Rattle.slice.specs.declared.Made.{Made}
-use Rattle.slice.specs.declared.Made.the-variants as made
-use Rattle.slice.specs.declared.Level.{Level}
-use Rattle.slice.specs.declared.Level.the-variants as level
-use Rattle.slice.specs.declared.Evaluated.{Evaluated}
-use Rattle.slice.specs.declared.Evaluated.the-variants as evaluated
 use Rattle.point.specs.declared.Total.{Total}
 use Rattle.point.specs.declared.Total.the-variants as total
 use Rattle.surface.specs.declared.types.Run.{Run}
@@ -24,7 +16,6 @@ use Rattle.surface.specs.declared.types.Region.{Region}
 use Rattle.surface.specs.declared.types.Region.the-variants as region
 use Rattle.surface.specs.declared.types.Covered.{Covered}
 use Rattle.surface.specs.declared.types.Covered.the-variants as covered
-use Rattle.slice.specs.Slice.{noSlice}
 use Rattle.surface.specs.Surface.{bracketRun, regionRun, totalRun, coversRun}
 use Rattle.diagnostics.specs.declared.report.DiagnosticsConfig.{DiagnosticsConfig}
 use Rattle.diagnostics.specs.declared.report.SurfaceDiagnostics.{SurfaceDiagnostics}
@@ -32,10 +23,6 @@ use Rattle.diagnostics.specs.declared.report.Diagnosed.{Diagnosed}
 use Rattle.diagnostics.specs.declared.report.Diagnosed.the-variants as diagnosed
 use Rattle.diagnostics.specs.Tally.{noCheck}
 use Rattle.diagnostics.specs.Diagnostics.{diagnoseOf}
-use Rattle.port.specs.declared.answers.RangeAnswer.{RangeAnswer}
-use Rattle.port.specs.declared.answers.SliceAnswer.{SliceAnswer}
-use Rattle.port.specs.declared.answers.LevelAnswer.{LevelAnswer}
-use Rattle.port.specs.declared.answers.ValuesAnswer.{ValuesAnswer}
 use Rattle.port.specs.declared.answers.TotalAnswer.{TotalAnswer}
 use Rattle.port.specs.declared.answers.BracketAnswer.{BracketAnswer}
 use Rattle.port.specs.declared.answers.RegionAnswer.{RegionAnswer}
@@ -46,23 +33,7 @@ use Rattle.port.specs.declared.answers.DiagnosedAnswer.{DiagnosedAnswer}
 unfoldable pub policyOf : ℕ → ShortExpiryPolicy
 policyOf n = cond (eqb n 1) ConstantVol Reject
 
--- ---- one slice, one point
-
-abbrev pub rangeAnswer : Ranged → RangeAnswer
-rangeAnswer (ranged.Range r) = record { number = 0; range = r }
-rangeAnswer (ranged.Refused n) = record { number = n; range = record { lo = +0; hi = +0 } }
-
-abbrev pub sliceAnswer : Made → SliceAnswer
-sliceAnswer (made.Slice s) = record { number = 0; slice = s }
-sliceAnswer (made.Refused n) = record { number = n; slice = noSlice }
-
-abbrev pub levelAnswer : Level → LevelAnswer
-levelAnswer (level.Value v) = record { number = 0; value = v }
-levelAnswer (level.Refused n) = record { number = n; value = +0 }
-
-abbrev pub valuesAnswer : Evaluated → ValuesAnswer
-valuesAnswer (evaluated.At v) = record { number = 0; w = v .w; «w_k» = v .«w_k»; «w_kk» = v .«w_kk» }
-valuesAnswer (evaluated.Refused n) = record { number = n; w = +0; «w_k» = +0; «w_kk» = +0 }
+-- ---- one point
 
 abbrev pub totalAnswer : Total → TotalAnswer
 totalAnswer (total.At v) = record { number = 0; total = v }

@@ -1,49 +1,17 @@
 // The answers of the library as records: the number of a refusal, or 0, and the values. A refusal carries zeros.
 ghost use mathlib.Core.Path.{_≡_};
-ghost use Rattle.port.specs.Answers.{policyOf, rangeAnswer, sliceAnswer, levelAnswer, valuesAnswer, totalAnswer, bracketAnswer, regionAnswer, coversAnswer, noDiagnostics, diagnosedAnswer, bracketFor, regionFor, totalFor, coversFor, diagnosedFor, roomFor};
+ghost use Rattle.port.specs.Answers.{policyOf, totalAnswer, bracketAnswer, regionAnswer, coversAnswer, noDiagnostics, diagnosedAnswer, bracketFor, regionFor, totalFor, coversFor, diagnosedFor, roomFor};
 use diagnostics::report::Diagnosed;
 use diagnostics::report::DiagnosticsConfig;
 use diagnostics::report::SurfaceDiagnostics;
 use diagnostics::tally::Check;
 use point::Total;
 use point::TotalVariance;
-use slice::Evaluated;
-use slice::KRange;
-use slice::Level;
-use slice::Made;
-use slice::Ranged;
-use slice::SviSlice;
 use surface::types::Bracket;
 use surface::types::Covered;
 use surface::types::Region;
 use surface::types::Run;
 use surface::types::ShortExpiryPolicy;
-
-#[repr(C)]
-pub struct RangeAnswer {
-    pub number: u32,
-    pub range: KRange,
-}
-
-#[repr(C)]
-pub struct SliceAnswer {
-    pub number: u32,
-    pub slice: SviSlice,
-}
-
-#[repr(C)]
-pub struct LevelAnswer {
-    pub number: u32,
-    pub value: f64,
-}
-
-#[repr(C)]
-pub struct ValuesAnswer {
-    pub number: u32,
-    pub w: f64,
-    pub w_k: f64,
-    pub w_kk: f64,
-}
 
 #[repr(C)]
 pub struct TotalAnswer {
@@ -90,69 +58,6 @@ fn policy_of(policy: u32) -> ShortExpiryPolicy
 }
 
 // ---- one record for each enum
-
-pub(crate) fn range_answer(r: Ranged) -> RangeAnswer
-    ensures { λ a. ⌜ a ≡ rangeAnswer r ⌝ }
-{
-    match r {
-        Ranged::Range(range) => RangeAnswer { number: 0, range },
-        Ranged::Refused(n) => RangeAnswer {
-            number: n,
-            range: KRange { lo: 0.0, hi: 0.0 },
-        },
-    }
-}
-
-pub(crate) fn slice_answer(m: Made) -> SliceAnswer
-    ensures { λ a. ⌜ a ≡ sliceAnswer m ⌝ }
-{
-    match m {
-        Made::Slice(slice) => SliceAnswer { number: 0, slice },
-        Made::Refused(n) => SliceAnswer {
-            number: n,
-            slice: SviSlice {
-                tau: 0.0,
-                a: 0.0,
-                b: 0.0,
-                rho: 0.0,
-                m: 0.0,
-                sigma: 0.0,
-                k_range: KRange { lo: 0.0, hi: 0.0 },
-            },
-        },
-    }
-}
-
-pub(crate) fn level_answer(l: Level) -> LevelAnswer
-    ensures { λ a. ⌜ a ≡ levelAnswer l ⌝ }
-{
-    match l {
-        Level::Value(value) => LevelAnswer { number: 0, value },
-        Level::Refused(n) => LevelAnswer {
-            number: n,
-            value: 0.0,
-        },
-    }
-}
-
-pub(crate) fn values_answer(e: Evaluated) -> ValuesAnswer
-    ensures { λ a. ⌜ a ≡ valuesAnswer e ⌝ }
-{
-    match e {
-        Evaluated::At(v) => ValuesAnswer {
-            number: 0,
-            w: v.w,
-            w_k: v.w_k,
-            w_kk: v.w_kk,
-        },
-        Evaluated::Refused(n) => ValuesAnswer {
-            number: n,
-            w: 0.0,
-            w_k: 0.0,
-            w_kk: 0.0,
-        },
-    }
-}
 
 pub(crate) fn total_answer(t: Total) -> TotalAnswer
     ensures { λ a. ⌜ a ≡ totalAnswer t ⌝ }

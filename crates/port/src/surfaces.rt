@@ -1,79 +1,21 @@
-// Slices, points, surfaces and their diagnostics, for callers outside. A policy is a number: 1 for ConstantVol, every other for Reject.
+// Points, surfaces and their diagnostics, for callers outside. A policy is a number: 1 for ConstantVol, every other for Reject.
 ghost use mathlib.Core.Path.{_≡_};
-ghost use Rattle.slice.specs.Slice.{holdsK, rangedOf, madeOf, minimumOf, leeSlopeOf, evalOf};
 ghost use Rattle.point.specs.Point.{pointNumber, totalOf};
 ghost use Rattle.surface.specs.Runs.{runOf, checkRun};
 ghost use Rattle.diagnostics.specs.Tally.{recordedOf, isClean};
 ghost use Rattle.diagnostics.specs.Diagnostics.{reportClean};
-ghost use Rattle.port.specs.Answers.{rangeAnswer, sliceAnswer, levelAnswer, valuesAnswer, totalAnswer, bracketFor, regionFor, totalFor, coversFor, diagnosedFor, roomFor};
+ghost use Rattle.port.specs.Answers.{totalAnswer, bracketFor, regionFor, totalFor, coversFor, diagnosedFor, roomFor};
 use crate::answers::BracketAnswer;
 use crate::answers::CoversAnswer;
 use crate::answers::DiagnosedAnswer;
-use crate::answers::LevelAnswer;
-use crate::answers::RangeAnswer;
 use crate::answers::RegionAnswer;
-use crate::answers::SliceAnswer;
 use crate::answers::TotalAnswer;
-use crate::answers::ValuesAnswer;
 use diagnostics::report::DiagnosticsConfig;
 use diagnostics::report::SurfaceDiagnostics;
 use diagnostics::tally::Check;
 use diagnostics::tally::DiagnosticPoint;
 use point::TotalVariance;
-use slice::KRange;
 use slice::SviSlice;
-
-// ---- one slice
-
-#[no_mangle]
-pub extern "C" fn port_k_range(lo: f64, hi: f64) -> RangeAnswer
-    ensures { λ r. ⌜ r ≡ rangeAnswer (rangedOf lo hi) ⌝ }
-{
-    crate::answers::range_answer(KRange::new(lo, hi))
-}
-
-#[no_mangle]
-pub extern "C" fn port_contains(range: KRange, k: f64) -> bool
-    ensures { λ r. ⌜ r ≡ holdsK range k ⌝ }
-{
-    KRange::contains(range, k)
-}
-
-#[no_mangle]
-pub extern "C" fn port_slice(
-    tau: f64,
-    a: f64,
-    b: f64,
-    rho: f64,
-    m: f64,
-    sigma: f64,
-    range: KRange,
-) -> SliceAnswer
-    ensures { λ r. ⌜ r ≡ sliceAnswer (madeOf tau a b rho m sigma range) ⌝ }
-{
-    crate::answers::slice_answer(SviSlice::new(tau, a, b, rho, m, sigma, range))
-}
-
-#[no_mangle]
-pub extern "C" fn port_minimum(slice: SviSlice) -> LevelAnswer
-    ensures { λ r. ⌜ r ≡ levelAnswer (minimumOf slice) ⌝ }
-{
-    crate::answers::level_answer(SviSlice::minimum(slice))
-}
-
-#[no_mangle]
-pub extern "C" fn port_lee_slope(slice: SviSlice) -> LevelAnswer
-    ensures { λ r. ⌜ r ≡ levelAnswer (leeSlopeOf slice) ⌝ }
-{
-    crate::answers::level_answer(SviSlice::lee_slope(slice))
-}
-
-#[no_mangle]
-pub extern "C" fn port_eval(slice: SviSlice, k: f64) -> ValuesAnswer
-    ensures { λ r. ⌜ r ≡ valuesAnswer (evalOf slice k) ⌝ }
-{
-    crate::answers::values_answer(SviSlice::eval(slice, k))
-}
 
 // ---- one point
 
