@@ -9,12 +9,12 @@ use borrow.Author.Needs.{needs}
 use Rattle.port.proofs.answers.write_diagnosed.Statement.{statement}
 use Rattle.port.proofs.answers.write_diagnosed.Tie as tie
 
-counted : {b s g : ℕ} (a : DiagnosedAnswer) → b ≡ flag (a .report .butterfly .worst .found) → s ≡ flag (a .report .«calendar_slope» .worst .found) → g ≡ flag (a .report .«calendar_gap» .worst .found)
+tallied : {b s g : ℕ} (a : DiagnosedAnswer) → b ≡ flag (a .report .butterfly .worst .found) → s ≡ flag (a .report .«calendar_slope» .worst .found) → g ≡ flag (a .report .«calendar_gap» .worst .found)
     → a .report .butterfly .points ∷ a .report .butterfly .violations ∷ b ∷ a .report .«calendar_slope» .points ∷ a .report .«calendar_slope» .violations ∷ s ∷ a .report .«calendar_gap» .points ∷ a .report .«calendar_gap» .violations ∷ g ∷ a .report .«evaluation_failures» ∷ [] ≡ diagnosedCounts a
-counted a e f h = λ i. a .report .butterfly .points ∷ a .report .butterfly .violations ∷ e i ∷ a .report .«calendar_slope» .points ∷ a .report .«calendar_slope» .violations ∷ f i ∷ a .report .«calendar_gap» .points ∷ a .report .«calendar_gap» .violations ∷ h i ∷ a .report .«evaluation_failures» ∷ []
+tallied a e f h = λ i. a .report .butterfly .points ∷ a .report .butterfly .violations ∷ e i ∷ a .report .«calendar_slope» .points ∷ a .report .«calendar_slope» .violations ∷ f i ∷ a .report .«calendar_gap» .points ∷ a .report .«calendar_gap» .violations ∷ h i ∷ a .report .«evaluation_failures» ∷ []
 
 returns : tie.Need-returns
-returns c = (refl, counted (c .before .before .before .before .before .before .before .before .args .a) (c .before .before .before .before .pick-count .ensures) (c .before .before .before .pick-count2 .ensures) (c .before .before .pick-count3 .ensures), refl)
+returns c = (refl, tallied (c .before .before .before .before .before .before .before .before .args .a) (c .before .before .before .before .pick-count .ensures) (c .before .before .before .pick-count2 .ensures) (c .before .before .pick-count3 .ensures), refl)
 
 pub write-diagnosed-spec : {M : Type 1} → statement M
 write-diagnosed-spec =
