@@ -1,17 +1,20 @@
 -- A file with repeats keeps what the file that holds only the first of each keeps: dropping a second time drops nothing, what is kept stands in its order,
--- and check 10 holds of what is kept exactly where it holds of all. Assumes nothing.
-use Prim.Native.Nat.{_≤_}
+-- and what is kept is refused before dropping exactly where all of it is. Assumes nothing.
+use Prim.Native.Nat.{ℕ, _*_, _≤_}
 use mathlib.Core.Path.{_≡_, refl, sym, ap, _∙_}
 use mathlib.Core.Bool.{Bool, true, false, _||_, _&&_}
 use mathlib.Core.List.{List, [], _∷_, _++_}
 use native.Mathlib.Omega.{arith}
 use lib.Dec.{eqb}
 use lib.ListN.{length}
-use borrow.Author.Tests.{eqb-true, eq-eqb}
+use borrow.Author.Tests.{eqb-true, eq-eqb, le-leb}
 use Rattle.laws.proofs.Choices.{both, false-true}
+use Rattle.records.specs.declared.FitConfig.{FitConfig}
+use Rattle.records.specs.Settings.{sizesHold}
 use Rattle.house.specs.declared.Quote.{Quote}
 use Rattle.house.specs.Check.{quotePasses, allPass}
-use Rattle.house.specs.Repeats.{sameQuote, among, one, keptAfter, kept}
+use Rattle.house.specs.Repeats.{sameQuote, among, unrepeated, keptAfter, kept}
+use Rattle.house.specs.Taken.{intakeNumber}
 
 -- the bits of records that are the same
 same-bits : (a b : Quote) → sameQuote a b ≡ true → (a .k ≡ b .k) × (a .w ≡ b .w) × (a .weight ≡ b .weight)
@@ -75,11 +78,11 @@ alike-repeat es fs q a h x = a x ∙ go (sameQuote q x) refl ∙ sym (among-appe
     go false p = rw p (or-false (among x fs))
 
 again : (es fs : List Quote) (qs : List Quote) → Alike es fs → keptAfter es (keptAfter fs qs) ≡ keptAfter fs qs
-unfolding keptAfter one
+unfolding keptAfter unrepeated
 again es fs [] a = refl
 again es fs (q ∷ qs) a = go (among q fs) refl (λ (ds : List Quote). again ds (fs ++ (q ∷ [])) qs)
   where
-    go : (b : Bool) → among q fs ≡ b → ((ds : List Quote) → Alike ds (fs ++ (q ∷ [])) → keptAfter ds (keptAfter (fs ++ (q ∷ [])) qs) ≡ keptAfter (fs ++ (q ∷ [])) qs) → keptAfter es (one b q ++ keptAfter (fs ++ (q ∷ [])) qs) ≡ one b q ++ keptAfter (fs ++ (q ∷ [])) qs
+    go : (b : Bool) → among q fs ≡ b → ((ds : List Quote) → Alike ds (fs ++ (q ∷ [])) → keptAfter ds (keptAfter (fs ++ (q ∷ [])) qs) ≡ keptAfter (fs ++ (q ∷ [])) qs) → keptAfter es (unrepeated b q ++ keptAfter (fs ++ (q ∷ [])) qs) ≡ unrepeated b q ++ keptAfter (fs ++ (q ∷ [])) qs
     go true p f = f es (alike-repeat es fs q a p)
     go false p f = rw (a q, p) (ap (λ (l : List Quote). q ∷ l) (f (es ++ (q ∷ [])) (alike-snoc es fs q a)))
 
@@ -97,11 +100,11 @@ pub data Sublist : List Quote → List Quote → Type 0 where
   keep : {q : Quote} {xs ys : List Quote} → Sublist xs ys → Sublist (q ∷ xs) (q ∷ ys)
 
 some : (es qs : List Quote) → Sublist (keptAfter es qs) qs
-unfolding keptAfter one
+unfolding keptAfter unrepeated
 some es [] = none
 some es (q ∷ qs) = go (among q es) (some (es ++ (q ∷ [])) qs)
   where
-    go : (b : Bool) → Sublist (keptAfter (es ++ (q ∷ [])) qs) qs → Sublist (one b q ++ keptAfter (es ++ (q ∷ [])) qs) (q ∷ qs)
+    go : (b : Bool) → Sublist (keptAfter (es ++ (q ∷ [])) qs) qs → Sublist (unrepeated b q ++ keptAfter (es ++ (q ∷ [])) qs) (q ∷ qs)
     go true s = drop s
     go false s = keep s
 
@@ -144,11 +147,11 @@ pass-snoc (e ∷ es) q p h =
     rw (x .0) (pass-snoc es q (x .1) h)
 
 passing : (es qs : List Quote) → allPass es ≡ true → allPass (keptAfter es qs) ≡ allPass qs
-unfolding keptAfter one allPass
+unfolding keptAfter unrepeated allPass
 passing es [] p = refl
 passing es (q ∷ qs) p = go (among q es) refl (quotePasses q) refl (λ h. passing (es ++ (q ∷ [])) qs (pass-snoc es q p h))
   where
-    go : (b : Bool) → among q es ≡ b → (c : Bool) → quotePasses q ≡ c → (quotePasses q ≡ true → allPass (keptAfter (es ++ (q ∷ [])) qs) ≡ allPass qs) → allPass (one b q ++ keptAfter (es ++ (q ∷ [])) qs) ≡ (quotePasses q && allPass qs)
+    go : (b : Bool) → among q es ≡ b → (c : Bool) → quotePasses q ≡ c → (quotePasses q ≡ true → allPass (keptAfter (es ++ (q ∷ [])) qs) ≡ allPass qs) → allPass (unrepeated b q ++ keptAfter (es ++ (q ∷ [])) qs) ≡ (quotePasses q && allPass qs)
     go true r c s f =
         let h = among-passes q es r p in
         f h ∙ rw h
@@ -159,3 +162,27 @@ passing es (q ∷ qs) p = go (among q es) refl (quotePasses q) refl (λ h. passi
 pub kept-passes : (qs : List Quote) → allPass (kept qs) ≡ allPass qs
 unfolding kept allPass
 kept-passes qs = passing [] qs refl
+
+-- ---- the number that refuses before dropping
+
+pub sizes-same : (m n : ℕ) (c : FitConfig) → m ≤ 256 → n ≤ 256 → sizesHold m c ≡ sizesHold n c
+unfolding sizesHold
+sizes-same m n c h k = rw (le-leb m 256 h, le-leb n 256 k)
+
+-- of at most 256 records, with room for all of them
+pub kept-intake :
+    (config : FitConfig) (qs : List Quote) (room slots : ℕ)
+    → length qs ≤ 256 → length qs * 4 ≤ room → length qs ≤ slots → intakeNumber config (kept qs) room slots ≡ intakeNumber config qs room slots
+unfolding intakeNumber
+kept-intake config qs room slots l h k =
+    let m = length (kept qs) in
+    let n = length qs in
+    let few = kept-short qs in
+    rw (
+      kept-passes qs,
+      sizes-same m n config (omega arith) l,
+      le-leb (m * 4) room (omega arith),
+      le-leb m slots (omega arith),
+      le-leb (n * 4) room h,
+      le-leb n slots k,
+    )

@@ -1,4 +1,4 @@
--- The file that holds only the first of each record, read: the same settings, tau and refusal, and the records that the file with repeats keeps.
+-- The file that holds only the first of each record, read: the same settings and tau, and the records that the file with repeats keeps.
 use Prim.Native.Nat.{ℕ, zero, suc, _+_, _*_, _<_, _≤_, _^_}
 use mathlib.Core.Path.{_≡_, refl, sym, ap, _∙_}
 use mathlib.Core.Bool.{Bool, true, false}
@@ -6,19 +6,16 @@ use mathlib.Core.List.{List, [], _∷_, _++_}
 use native.Mathlib.Omega.{arith}
 use native.Mathlib.Nat.{add-zero}
 use lib.ListN.{length, getD}
-use borrow.Author.Tests.{le-leb}
 use Rattle.laws.specs.Floats.{f64}
 use Rattle.bits.specs.Bytes.{u64At}
-use Rattle.records.specs.declared.FitConfig.{FitConfig}
-use Rattle.records.specs.Settings.{sizesHold}
 use Rattle.house.specs.declared.House.the-variants.{File}
 use Rattle.house.specs.declared.Quote.{Quote}
-use Rattle.house.specs.File.{houseOf, f64At, tauOf, settingsAt, configOf, quoteAt, quotes}
-use Rattle.house.specs.Repeats.{among, one, keptAfter, kept}
-use Rattle.house.specs.Taken.{recordsAt, refusalOf, keptFor, keptOf}
+use Rattle.house.specs.File.{houseOf, f64At, tauOf, settingsAt, configOf, quoteAt, quotes, recordsAt}
+use Rattle.house.specs.Repeats.{among, unrepeated, keptAfter, kept}
+use Rattle.house.specs.Taken.{keptFor, keptOf}
 use Rattle.house.specs.Encode.{fileBytes, Bytes, Wide, AllWide, wordsFrom, onceFor, onceOf}
 use Rattle.house.proofs.Files.{file-is, quotes-length}
-use Rattle.house.proofs.Once.{kept-once, kept-short, kept-passes}
+use Rattle.house.proofs.Once.{kept-once, kept-short}
 use Rattle.house.proofs.ReadBack.{settings-same, house-back, settings-back, tau-back, records-back}
 
 -- ---- what is read from bytes has 64 bits
@@ -33,11 +30,11 @@ quotes-wide s b at zero = tt
 quotes-wide s b at (suc n) = ((u64-wide s b at, (u64-wide s b (at + 8), (u64-wide s b (at + 16), (u64-wide s b (at + 24), tt)))), quotes-wide s b (at + 32) n)
 
 after-wide : (es qs : List Quote) → AllWide qs → AllWide (keptAfter es qs)
-unfolding keptAfter one AllWide
+unfolding keptAfter unrepeated AllWide
 after-wide es [] h = tt
 after-wide es (q ∷ qs) h = go (among q es) (after-wide (es ++ (q ∷ [])) qs (h .1))
   where
-    go : (b : Bool) → AllWide (keptAfter (es ++ (q ∷ [])) qs) → AllWide (one b q ++ keptAfter (es ++ (q ∷ [])) qs)
+    go : (b : Bool) → AllWide (keptAfter (es ++ (q ∷ [])) qs) → AllWide (unrepeated b q ++ keptAfter (es ++ (q ∷ [])) qs)
     go true f = f
     go false f = (h .0, f)
 
@@ -91,7 +88,7 @@ module _ (s : List ℕ) (b : Bytes s) (v n : ℕ) (e : File v n ≡ houseOf s) w
   pub once-house : houseOf (onceOf s) ≡ File v (length (kept (recordsAt s v n)))
   once-house = ap houseOf (sym once-is) ∙ house-back v (wordsFrom s 4 (11 * v)) (u64At s (8 + 88 * v)) (kept all) small (words-length s 4 (11 * v)) short
 
-  once-records : recordsAt (onceOf s) v (length (kept (recordsAt s v n))) ≡ kept (recordsAt s v n)
+  pub once-records : recordsAt (onceOf s) v (length (kept (recordsAt s v n))) ≡ kept (recordsAt s v n)
   once-records =
       ap (λ (x : List ℕ). recordsAt x v (length (kept all))) (sym once-is)
       ∙ records-back v (wordsFrom s 4 (11 * v)) (u64At s (8 + 88 * v)) (kept all) small (words-length s 4 (11 * v)) short (kept-wide all (quotes-wide s b (20 + 88 * v) n))
@@ -125,26 +122,9 @@ config-from s o zero l e = refl
 config-from s o (suc zero) l e = settings-same (λ i. u64At o (4 + 8 * i)) (λ i. u64At s (4 + 8 * i)) e
 config-from s o (suc (suc v)) l e = absurd (omega arith)
 
-pub sizes-same : (m n : ℕ) (c : FitConfig) → m ≤ 256 → n ≤ 256 → sizesHold m c ≡ sizesHold n c
-unfolding sizesHold
-sizes-same m n c h k = rw (le-leb m 256 h, le-leb n 256 k)
-
 module _ (s : List ℕ) (b : Bytes s) (v n : ℕ) (e : File v n ≡ houseOf s) where
   pub once-tau : tauOf (onceOf s) v ≡ tauOf s v
   once-tau = tau-from s (onceOf s) v (small s b v n e) (tau-same s b v n e)
 
   pub once-config : configOf (onceOf s) v ≡ configOf s v
   once-config = config-from s (onceOf s) v (small s b v n e) (word-same s b v n e)
-
-  pub once-refusal : refusalOf (onceOf s) v (length (kept (recordsAt s v n))) 256 256 256 ≡ refusalOf s v n 256 256 256
-  unfolding refusalOf
-  once-refusal =
-      let m = length (kept (recordsAt s v n)) in
-      rw (
-        once-records s b v n e,
-        once-config,
-        kept-passes (recordsAt s v n),
-        sizes-same m n (configOf s v) (short s b v n e) (within s b v n e),
-        le-leb m 256 (short s b v n e),
-        le-leb n 256 (within s b v n e),
-      )

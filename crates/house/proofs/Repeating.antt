@@ -4,13 +4,13 @@ use mathlib.Core.Path.{_≡_, sym, ap, _∙_}
 use mathlib.Core.Bool.{Bool, true, false, not, _||_, _&&_}
 use mathlib.Core.List.{List, [], _∷_, _++_}
 use native.Mathlib.Omega.{arith}
-use native.Mathlib.Nat.{add-zero, sub-zero}
+use native.Mathlib.Nat.{zero-add, sub-zero}
 use native.Mathlib.Numerals.{add-one}
 use borrow.Author.Tests.{not-true, not-false}
 use Rattle.house.specs.declared.Quote.{Quote}
 use Rattle.house.specs.File.{quoteAt, quotes}
 use Rattle.house.specs.Check.{quotePasses, allPass}
-use Rattle.house.specs.Repeats.{sameQuote, among, one, keptAfter, kept}
+use Rattle.house.specs.Repeats.{sameQuote, among, unrepeated, keptAfter, kept}
 use Rattle.house.proofs.Files.{quotes-cons, quotes-snoc}
 
 -- ---- check 10
@@ -60,34 +60,36 @@ nowhere q Q s at (suc n) L h inv w = absurd (omega arith)
 
 -- ---- what is kept of the records from the i-th on
 
-pub rest : List ℕ → ℕ → ℕ → ℕ → List Quote
-rest s from n i = keptAfter (quotes s from i) (quotes s (from + 32 * i) (n - i))
+pub rest : List ℕ → ℕ → ℕ → List Quote
+rest s n i = keptAfter (quotes s 0 i) (quotes s (32 * i) (n - i))
 
-pub rest-start : (s : List ℕ) (from n : ℕ) → rest s from n 0 ≡ kept (quotes s from n)
+pub rest-start : (s : List ℕ) (n : ℕ) → rest s n 0 ≡ kept (quotes s 0 n)
 unfolding rest kept quotes
-rest-start s from n = rw (add-zero, sub-zero)
+rest-start s n = rw sub-zero
 
-pub rest-end : (s : List ℕ) (from n i : ℕ) → n ≤ i → rest s from n i ≡ []
+pub rest-end : (s : List ℕ) (n i : ℕ) → n ≤ i → rest s n i ≡ []
 unfolding rest keptAfter quotes
-rest-end s from n i h =
+rest-end s n i h =
     let e : n - i ≡ 0 = omega arith in
-    ap (λ (k : ℕ). keptAfter (quotes s from i) (quotes s (from + 32 * i) k)) e
+    ap (λ (k : ℕ). keptAfter (quotes s 0 i) (quotes s (32 * i) k)) e
 
-rest-step : (s : List ℕ) (from n i : ℕ) → i < n → rest s from n i ≡ one (among (quoteAt s (from + 32 * i)) (quotes s from i)) (quoteAt s (from + 32 * i)) ++ rest s from n (i + 1)
+rest-step : (s : List ℕ) (n i : ℕ) → i < n → rest s n i ≡ unrepeated (among (quoteAt s (32 * i)) (quotes s 0 i)) (quoteAt s (32 * i)) ++ rest s n (i + 1)
 unfolding rest keptAfter
-rest-step s from n i h =
+rest-step s n i h =
     let more : 0 < n - i = omega arith in
-    let a : from + 32 * i + 32 ≡ from + 32 * (i + 1) = omega arith in
+    let a : 32 * i + 32 ≡ 32 * (i + 1) = omega arith in
     let b : n - i - 1 ≡ n - (i + 1) = omega arith in
-    ap (keptAfter (quotes s from i)) (quotes-cons s (from + 32 * i) (n - i) more)
-    ∙ rw (a, b, ← quotes-snoc, add-one i)
+    let last : quotes s 0 (suc i) ≡ quotes s 0 i ++ (quoteAt s (32 * i) ∷ []) =
+    quotes-snoc s 0 i ∙ ap (λ (p : ℕ). quotes s 0 i ++ (quoteAt s p ∷ [])) (zero-add (32 * i)) in
+    ap (keptAfter (quotes s 0 i)) (quotes-cons s (32 * i) (n - i) more)
+    ∙ rw (a, b, ← last, add-one i)
 
 -- a repeat leaves the rest as it is; any other record is the rest's first
-module _ (s : List ℕ) (from n i : ℕ) (r : Bool) (h : i < n) (t : r ≡ among (quoteAt s (from + 32 * i)) (quotes s from i)) where
-  pub rest-drop : not r ≡ false → rest s from n i ≡ rest s from n (i + 1)
-  unfolding one
-  rest-drop y = rest-step s from n i h ∙ rw (← t, not-false r y)
+module _ (s : List ℕ) (n i : ℕ) (r : Bool) (h : i < n) (t : r ≡ among (quoteAt s (32 * i)) (quotes s 0 i)) where
+  pub rest-drop : not r ≡ false → rest s n i ≡ rest s n (i + 1)
+  unfolding unrepeated
+  rest-drop y = rest-step s n i h ∙ rw (← t, not-false r y)
 
-  pub rest-keep : not r ≡ true → rest s from n i ≡ quoteAt s (from + 32 * i) ∷ rest s from n (i + 1)
-  unfolding one
-  rest-keep y = rest-step s from n i h ∙ rw (← t, not-true r y)
+  pub rest-keep : not r ≡ true → rest s n i ≡ quoteAt s (32 * i) ∷ rest s n (i + 1)
+  unfolding unrepeated
+  rest-keep y = rest-step s n i h ∙ rw (← t, not-true r y)

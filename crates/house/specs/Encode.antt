@@ -6,9 +6,8 @@ use Rattle.bits.specs.Bytes.{u64At}
 use Rattle.house.specs.declared.House.{House}
 use Rattle.house.specs.declared.House.the-variants.{Malformed, File}
 use Rattle.house.specs.declared.Quote.{Quote}
-use Rattle.house.specs.File.{houseOf}
+use Rattle.house.specs.File.{houseOf, recordsAt}
 use Rattle.house.specs.Repeats.{kept}
-use Rattle.house.specs.Taken.{recordsAt}
 
 -- k bytes, the low one first
 abbrev pub le : ℕ → ℕ → List ℕ

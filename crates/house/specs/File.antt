@@ -1,5 +1,5 @@
 -- The house file: where its three sections stand, when it is well formed, and what it says. Definitions only.
-use Prim.Native.Nat.{ℕ, zero, suc, _+_, _*_}
+use Prim.Native.Nat.{ℕ, zero, suc, _+_, _*_, _/_}
 use mathlib.Core.Bool.{_&&_, cond}
 use mathlib.Core.List.{List, [], _∷_}
 use lib.ListN.{length}
@@ -64,3 +64,11 @@ quoteAt s at =
 unfoldable pub quotes : List ℕ → ℕ → ℕ → List Quote
 quotes s at zero = []
 quotes s at (suc n) = quoteAt s at ∷ quotes s (at + 32) n
+
+-- a file's records: n behind v settings
+abbrev pub recordsAt : List ℕ → ℕ → ℕ → List Quote
+recordsAt s v n = quotes s (20 + 88 * v) n
+
+-- records alone: as many as there are 32 bytes for
+abbrev pub recordsOf : List ℕ → List Quote
+recordsOf s = quotes s 0 (length s / 32)

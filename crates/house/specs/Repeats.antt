@@ -14,13 +14,13 @@ among q [] = false
 among q (e ∷ es) = sameQuote e q || among q es
 
 -- a repeat gives nothing, any other record itself
-unfoldable pub one : Bool → Quote → List Quote
-one repeat q = cond repeat [] (q ∷ [])
+unfoldable pub unrepeated : Bool → Quote → List Quote
+unrepeated repeat q = cond repeat [] (q ∷ [])
 
 -- what is kept of qs where es stand before them
 unfoldable pub keptAfter : List Quote → List Quote → List Quote
 keptAfter es [] = []
-keptAfter es (q ∷ qs) = one (among q es) q ++ keptAfter (es ++ (q ∷ [])) qs
+keptAfter es (q ∷ qs) = unrepeated (among q es) q ++ keptAfter (es ++ (q ∷ [])) qs
 
 -- the first of each
 unfoldable pub kept : List Quote → List Quote

@@ -1,16 +1,16 @@
-// The house file. Nothing is copied out of its bytes but what is kept: counts and places say where each value stands. Every public function answers on every byte string.
+// The house file, and records as they stand in it. Nothing is copied out of the bytes but what is kept: counts and places say where each value stands. Every public function answers on every byte string.
 use records::FitConfig;
 ghost use mathlib.Core.Path.{_≡_};
 ghost use mathlib.Core.Bool.{_&&_};
 ghost use mathlib.Core.List.{map};
-ghost use Prim.Native.Nat.{_+_, _*_, _≤_, _<_};
+ghost use Prim.Native.Nat.{_*_, _/_, _≤_, _<_};
 ghost use lib.Dec.{leb};
 ghost use lib.ListN.{length};
-ghost use Rattle.laws.specs.Room.{atFront, written};
-ghost use Rattle.house.specs.File.{houseOf, f64At, tauOf, settingsAt, configOf, quoteAt, quotes};
+ghost use Rattle.laws.specs.Room.{atFront};
+ghost use Rattle.house.specs.File.{houseOf, f64At, tauOf, settingsAt, configOf, quoteAt, quotes, recordsOf};
 ghost use Rattle.house.specs.Check.{kOf, wOf, weightOf, quotePasses, allPass};
 ghost use Rattle.house.specs.Repeats.{sameQuote, among, kept};
-ghost use Rattle.house.specs.Taken.{refusalOf, takenOf, keptOf};
+ghost use Rattle.house.specs.Taken.{intakeNumber, takenOf};
 
 // How many settings records (0 or 1) and how many observations a well-formed file has.
 pub enum House {
@@ -24,14 +24,6 @@ pub struct Quote {
     pub k: u64,
     pub w: u64,
     pub weight: u64,
-}
-
-// What became of a file: 0 or the refusal, its settings count, and how many records it has and how many are kept.
-pub struct Taken {
-    pub number: u32,
-    pub settings: usize,
-    pub read: usize,
-    pub kept: usize,
 }
 
 pub fn house_of(s: &[u8]) -> House
@@ -124,11 +116,11 @@ fn quote_passes(q: Quote) -> bool
 }
 
 // Whether each of n records passes check 10.
-fn all_pass(s: &[u8], from: usize, n: usize) -> bool
-    requires { ⌜ from + 32 * n ≤ length (now s) ⌝ }
-    ensures { λ r. ⌜ r ≡ allPass (quotes (now (s .entry)) from n) ⌝ }
+fn all_pass(s: &[u8], n: usize) -> bool
+    requires { ⌜ 32 * n ≤ length (now s) ⌝ }
+    ensures { λ r. ⌜ r ≡ allPass (quotes (now (s .entry)) 0 n) ⌝ }
 {
-    let mut at = from;
+    let mut at = 0;
     let mut left = n;
     while 0 < left {
         if !quote_passes(quote_at(s, at)) {
@@ -140,6 +132,34 @@ fn all_pass(s: &[u8], from: usize, n: usize) -> bool
     true
 }
 
+// Room for four residual numbers and one capped position for every record.
+fn room_holds(s: &[u8], room: usize, slots: usize) -> bool
+    ensures { λ r. ⌜ r ≡ leb (length (now (s .entry)) / 32 * 4) room && leb (length (now (s .entry)) / 32) slots ⌝ }
+{
+    let n = s.len() / 32;
+    (n * 4 <= room) & (n <= slots)
+}
+
+// 12, 11, 10 or 0: what refuses records, 32 bytes each, before repeats are dropped.
+pub fn intake_number(s: &[u8], config: FitConfig, room: usize, slots: usize) -> u32
+    ensures { λ r. ⌜ r ≡ intakeNumber config (recordsOf (now (s .entry))) room slots ⌝ }
+{
+    let enough = room_holds(s, room, slots);
+    if !enough {
+        return 12;
+    }
+    let n = s.len() / 32;
+    let sizes = records::sizes_hold(n, config);
+    if !sizes {
+        return 11;
+    }
+    let observations = all_pass(s, n);
+    if !observations {
+        return 10;
+    }
+    0
+}
+
 // ---- repeats
 
 fn same(a: Quote, b: Quote) -> bool
@@ -149,12 +169,12 @@ fn same(a: Quote, b: Quote) -> bool
 }
 
 // Whether one of the first i records has the same content as record i.
-fn repeated(s: &[u8], from: usize, i: usize) -> bool
-    requires { ⌜ from + 32 * i ≤ length (now s) ⌝ }
-    ensures { λ r. ⌜ r ≡ among (quoteAt (now (s .entry)) (from + 32 * i)) (quotes (now (s .entry)) from i) ⌝ }
+fn repeated(s: &[u8], i: usize) -> bool
+    requires { ⌜ 32 * i ≤ length (now s) ⌝ }
+    ensures { λ r. ⌜ r ≡ among (quoteAt (now (s .entry)) (32 * i)) (quotes (now (s .entry)) 0 i) ⌝ }
 {
-    let q = quote_at(s, from + 32 * i);
-    let mut at = from;
+    let q = quote_at(s, 32 * i);
+    let mut at = 0;
     let mut left = i;
     while 0 < left {
         if same(quote_at(s, at), q) {
@@ -167,19 +187,19 @@ fn repeated(s: &[u8], from: usize, i: usize) -> bool
 }
 
 // Puts what is kept of n records into three columns, and answers how many that is. Room beyond is untouched.
-fn keep(s: &[u8], from: usize, n: usize, k: &mut [f64], w: &mut [f64], weight: &mut [f64]) -> usize
+fn keep(s: &[u8], n: usize, k: &mut [f64], w: &mut [f64], weight: &mut [f64]) -> usize
     requires { ⌜ (n ≤ length (now k)) × (n ≤ length (now w)) × (n ≤ length (now weight)) ⌝ }
-    requires { ⌜ from + 32 * n ≤ length (now s) ⌝ }
-    ensures { λ r. ⌜ r ≡ length (kept (quotes (now (s .entry)) from n)) ⌝ }
-    ensures { λ r. ⌜ now (k .exit) ≡ atFront (map kOf (kept (quotes (now (s .entry)) from n))) (now (k .entry)) ⌝ }
-    ensures { λ r. ⌜ now (w .exit) ≡ atFront (map wOf (kept (quotes (now (s .entry)) from n))) (now (w .entry)) ⌝ }
-    ensures { λ r. ⌜ now (weight .exit) ≡ atFront (map weightOf (kept (quotes (now (s .entry)) from n))) (now (weight .entry)) ⌝ }
+    requires { ⌜ 32 * n ≤ length (now s) ⌝ }
+    ensures { λ r. ⌜ r ≡ length (kept (quotes (now (s .entry)) 0 n)) ⌝ }
+    ensures { λ r. ⌜ now (k .exit) ≡ atFront (map kOf (kept (quotes (now (s .entry)) 0 n))) (now (k .entry)) ⌝ }
+    ensures { λ r. ⌜ now (w .exit) ≡ atFront (map wOf (kept (quotes (now (s .entry)) 0 n))) (now (w .entry)) ⌝ }
+    ensures { λ r. ⌜ now (weight .exit) ≡ atFront (map weightOf (kept (quotes (now (s .entry)) 0 n))) (now (weight .entry)) ⌝ }
 {
     let mut i = 0;
     let mut m = 0;
     while i < n {
-        if !repeated(s, from, i) {
-            let q = quote_at(s, from + 32 * i);
+        if !repeated(s, i) {
+            let q = quote_at(s, 32 * i);
             k[m] = bits::f64_of(q.k);
             w[m] = bits::f64_of(q.w);
             weight[m] = bits::f64_of(q.weight);
@@ -190,64 +210,23 @@ fn keep(s: &[u8], from: usize, n: usize, k: &mut [f64], w: &mut [f64], weight: &
     m
 }
 
-// ---- the whole
-
-fn room_holds(n: usize, a: usize, b: usize, c: usize) -> bool
+fn columns_hold(n: usize, a: usize, b: usize, c: usize) -> bool
     ensures { λ r. ⌜ r ≡ leb n a && leb n b && leb n c ⌝ }
 {
     (n <= a) & (n <= b) & (n <= c)
 }
 
-// 12, 11, 10 or 0: what refuses n records that stand behind so many settings, with such room for their three columns.
-fn refusal_of(s: &[u8], settings: usize, n: usize, a: usize, b: usize, c: usize) -> u32
-    requires { ⌜ (settings ≤ 1) × (n ≤ 256) × (20 + 88 * settings + 32 * n ≤ length (now s)) ⌝ }
-    ensures { λ r. ⌜ r ≡ refusalOf (now (s .entry)) settings n a b c ⌝ }
+// Puts the first of each of some records, 32 bytes each, into three columns, and answers how many these are: none where a column has not room for all of them.
+pub fn take(s: &[u8], k: &mut [f64], w: &mut [f64], weight: &mut [f64]) -> usize
+    ensures { λ r. ⌜ r ≡ length (takenOf (recordsOf (now (s .entry))) (length (now (k .entry))) (length (now (w .entry))) (length (now (weight .entry)))) ⌝ }
+    ensures { λ r. ⌜ now (k .exit) ≡ atFront (map kOf (takenOf (recordsOf (now (s .entry))) (length (now (k .entry))) (length (now (w .entry))) (length (now (weight .entry))))) (now (k .entry)) ⌝ }
+    ensures { λ r. ⌜ now (w .exit) ≡ atFront (map wOf (takenOf (recordsOf (now (s .entry))) (length (now (k .entry))) (length (now (w .entry))) (length (now (weight .entry))))) (now (w .entry)) ⌝ }
+    ensures { λ r. ⌜ now (weight .exit) ≡ atFront (map weightOf (takenOf (recordsOf (now (s .entry))) (length (now (k .entry))) (length (now (w .entry))) (length (now (weight .entry))))) (now (weight .entry)) ⌝ }
 {
-    let room = room_holds(n, a, b, c);
-    if !room {
-        return 12;
+    let n = s.len() / 32;
+    let enough = columns_hold(n, k.len(), w.len(), weight.len());
+    if !enough {
+        return 0;
     }
-    let sizes = records::sizes_hold(n, config_of(s, settings));
-    if !sizes {
-        return 11;
-    }
-    let observations = all_pass(s, 20 + 88 * settings, n);
-    if !observations {
-        return 10;
-    }
-    0
-}
-
-// Puts what is kept of a file's records into three columns. A refusal (43; 12 where a column is short; 11; 10) leaves them untouched.
-pub fn take_in(s: &[u8], k: &mut [f64], w: &mut [f64], weight: &mut [f64]) -> Taken
-    ensures { λ r. ⌜ r ≡ takenOf (now (s .entry)) (length (now (k .entry))) (length (now (w .entry))) (length (now (weight .entry))) ⌝ }
-    ensures { λ r. ⌜ now (k .exit) ≡ written (r .number) (map kOf (keptOf (now (s .entry)))) (now (k .entry)) ⌝ }
-    ensures { λ r. ⌜ now (w .exit) ≡ written (r .number) (map wOf (keptOf (now (s .entry)))) (now (w .entry)) ⌝ }
-    ensures { λ r. ⌜ now (weight .exit) ≡ written (r .number) (map weightOf (keptOf (now (s .entry)))) (now (weight .entry)) ⌝ }
-{
-    let h = house_of(s);
-    let House::File { settings, count } = h else {
-        return Taken {
-            number: 43,
-            settings: 0,
-            read: 0,
-            kept: 0,
-        };
-    };
-    let number = refusal_of(s, settings, count, k.len(), w.len(), weight.len());
-    if number != 0 {
-        return Taken {
-            number,
-            settings,
-            read: count,
-            kept: count,
-        };
-    }
-    let m = keep(s, 20 + 88 * settings, count, k, w, weight);
-    Taken {
-        number: 0,
-        settings,
-        read: count,
-        kept: m,
-    }
+    keep(s, n, k, w, weight)
 }

@@ -1,8 +1,8 @@
 -- Every answer has one of the forms of the print rules: a malformed file's one line; 11 or 10 with as many kept as read; 1, 2, 4, 5; 3 with its two counts;
 -- 6, 7, 8 behind `search`; 9 behind `search` with its two floats; or an accepted fit.
-use Prim.Native.Nat.{ℕ, zero, suc, _*_, _≤_, _<_}
-use mathlib.Core.Path.{_≡_, refl, sym, ap, subst, _∙_}
-use mathlib.Core.Bool.{Bool, true, false, _||_}
+use Prim.Native.Nat.{ℕ, zero, suc, _+_, _*_, _≤_, _<_}
+use mathlib.Core.Path.{_≡_, refl, sym, subst, _∙_}
+use mathlib.Core.Bool.{Bool, true, false, _||_, cond}
 use mathlib.Core.List.{List, [], _∷_, _++_, map}
 use native.Mathlib.Omega.{arith}
 use lib.Dec.{eqb, leb}
@@ -25,23 +25,22 @@ use Rattle.records.specs.Observation.{passes}
 use Rattle.records.specs.Answer.{refusedWith}
 use Rattle.judge.specs.Judge.{sumsOf, paramsHold, rmseOf, rmseHolds}
 use Rattle.calibrate.specs.End.{acceptedOf, endOf}
-use Rattle.calibrate.specs.Fit.{fitSearch, bestEnd, searchEnd, decidedOf, refusedEarly, cappedAs, fitOf}
+use Rattle.calibrate.specs.Fit.{fitSearch, bestEnd, searchEnd, decidedOf, refusedEarly, cappedAs, fitOf, residualsOf}
 use Rattle.house.specs.declared.House.{House}
 use Rattle.house.specs.declared.House.the-variants.{Malformed, File}
 use Rattle.house.specs.declared.Quote.{Quote}
-use Rattle.house.specs.File.{houseOf, tauOf, configOf}
+use Rattle.house.specs.File.{houseOf, tauOf, configOf, recordsAt}
 use Rattle.house.specs.Check.{kOf, wOf, weightOf, quotePasses, allPass}
-use Rattle.house.specs.Repeats.{kept}
-use Rattle.house.specs.Taken.{recordsAt, refusalOf, takenFor, takenOf, keptOf}
-use Rattle.house.proofs.Files.{file-is}
-use Rattle.house.proofs.Taking.{kept-file, passed}
-use Rattle.house.proofs.Once.{kept-passes}
-use Rattle.house.proofs.OnceRead.{sizes-same}
+use Rattle.house.specs.Repeats.{kept as firsts}
+use Rattle.house.specs.Taken.{intakeNumber, keptFor, keptOf}
+use Rattle.house.proofs.Files.{file-is, quotes-length}
+use Rattle.house.proofs.Taking.{passed}
+use Rattle.house.proofs.Once.{kept-short, kept-passes, sizes-same}
+use Rattle.outcome.specs.declared.Outcome.{Outcome}
+use Rattle.outcome.specs.Outcome.{outcomeWith, refusedAt, fitFor, quotesOutcome, outcomeFor, fileOutcome, settingsFor, settingsOf}
 use Rattle.text.specs.Lines.{readLine, searchLine, cappedLine, pointLines, refusedLine, refusedFloats}
-use Rattle.text.specs.Answers.{earlyText, refusedOf, refusalText, figuresText}
-use Rattle.text.proofs.Answering.{early-bare}
-use Rattle.run.specs.Answer.{fitText, answerOf}
-use Rattle.run.proofs.RepeatsDoNotShow.{fitRest, restOf, keptCount, kept-small, answer-is}
+use Rattle.text.specs.Answers.{malformedText, refusedOf, refusalText, figuresText}
+use Rattle.run.specs.Answer.{restText, restOf, answerOf}
 
 pub data Form : List ℕ → Type 0 where
   malformed : Form (refusedLine 43 0 0)
@@ -69,6 +68,12 @@ columns-pass qs h =
 
 -- ---- the forms of a fit's answer
 
+-- behind the `read` line
+abbrev fitRest : FitConfig → List Float → List Float → List Float → FitAnswer → List ℕ
+fitRest c ks ws ts a =
+    unless (eqb (a .number) 0) (refusalText a)
+    (figuresText a ++ (cappedLine (cappedOf (c .«max_weight_ratio») ts) ++ pointLines (residualsOf (a .slice) ks ws)))
+
 module _ (read kept : ℕ) (tau : Float) (c : FitConfig) (ks ws ts : List Float) (long : length ks ≡ kept) where
   abbrev P : FitAnswer → Type 0
   P a = Form (readLine read kept ++ fitRest c ks ws ts a)
@@ -81,23 +86,23 @@ module _ (read kept : ℕ) (tau : Float) (c : FitConfig) (ks ws ts : List Float)
   early-0 h = false-true (sym h)
 
   early-1 : Early 1
-  unfolding fitRest refusalText refusedOf refusedWith
+  unfolding refusalText refusedOf refusedWith
   early-1 h = entry 1 read kept refl
 
   early-2 : Early 2
-  unfolding fitRest refusalText refusedOf refusedWith
+  unfolding refusalText refusedOf refusedWith
   early-2 h = entry 2 read kept refl
 
   early-3 : Early 3
-  unfolding fitRest refusalText refusedOf refusedWith
+  unfolding refusalText refusedOf refusedWith
   early-3 h = subst (λ (n : ℕ). Form (readLine read kept ++ refusedLine 3 n (c .«min_observations»))) (sym long) (too-few read kept (c .«min_observations»))
 
   early-4 : Early 4
-  unfolding fitRest refusalText refusedOf refusedWith
+  unfolding refusalText refusedOf refusedWith
   early-4 h = entry 4 read kept refl
 
   early-5 : Early 5
-  unfolding fitRest refusalText refusedOf refusedWith
+  unfolding refusalText refusedOf refusedWith
   early-5 h = entry 5 read kept refl
 
   module _ (room slots : ℕ) (lengths : lengthsHold ks ws ts room slots ≡ true) (sizes : sizesHold (length ks) c ≡ true) (observations : columnsPass ks ws ts ≡ true) where
@@ -123,23 +128,23 @@ module _ (read kept : ℕ) (tau : Float) (c : FitConfig) (ks ws ts : List Float)
 
   module _ (m : ℕ) (n : Counts) where
     late-6 : Late m (refusedWith 6 0 0 +0 +0 n)
-    unfolding fitRest refusalText refusedOf refusedWith
+    unfolding refusalText refusedOf refusedWith
     late-6 = (λ h. searched 6 read kept n refl, λ h. false-true h)
 
     late-7 : Late m (refusedWith 7 0 0 +0 +0 n)
-    unfolding fitRest refusalText refusedOf refusedWith
+    unfolding refusalText refusedOf refusedWith
     late-7 = (λ h. searched 7 read kept n refl, λ h. false-true h)
 
     late-8 : Late m (refusedWith 8 0 0 +0 +0 n)
-    unfolding fitRest refusalText refusedOf refusedWith
+    unfolding refusalText refusedOf refusedWith
     late-8 = (λ h. searched 8 read kept n refl, λ h. false-true h)
 
     late-9 : (rmse most : Float) → Late m (refusedWith 9 0 0 rmse most n)
-    unfolding fitRest refusalText refusedOf refusedWith
+    unfolding refusalText refusedOf refusedWith
     late-9 rmse most = (λ h. residuals-large read kept n rmse most, λ h. false-true h)
 
     late-0 : (objective : Float) (active : List Bool) (s : SviSlice) (params rmse : Float) → Late m (acceptedOf c n objective active s params rmse)
-    unfolding fitRest acceptedOf cappedAs
+    unfolding acceptedOf cappedAs
     late-0 objective active s params rmse = (λ h. false-true (sym h), λ h. accepted read kept _ _ _)
 
     ended : (a-max objective : Float) (active : List Bool) (s : SviSlice) (us : List Float) → Late m (endOf c n a-max objective active s ks ws us)
@@ -191,48 +196,63 @@ columns-fit qs l =
       le-leb n 256 l,
     )
 
--- before dropping: 12 cannot be, there is room
-early-form : (s : List ℕ) (v n : ℕ) → n ≤ 256 → (eqb (refusalOf s v n 256 256 256) 0 ≡ false → (eqb (refusalOf s v n 256 256 256) 11 || eqb (refusalOf s v n 256 256 256) 10) ≡ true)
-unfolding refusalOf
-early-form s v n l =
-    let Q : ℕ → Type 0 = λ r. eqb r 0 ≡ false → (eqb r 11 || eqb r 10) ≡ true in
-    rw (le-leb n 256 l)
-    (cond-ind Q (sizesHold n (configOf s v)) (cond-ind Q (allPass (recordsAt s v n)) (λ h. false-true (sym h)) (λ h. refl)) (λ h. refl))
+-- of at most 256 quotes
+module _ (tau : Float) (config : FitConfig) (qs : List Quote) (l : length qs ≤ 256) where
+  abbrev Printed : Outcome → Type 0
+  Printed o = Form (readLine (o .read) (o .kept) ++ restText (o .fit) config (firsts qs))
 
-file-form : (s : List ℕ) (v n : ℕ) → File v n ≡ houseOf s → Form (readLine n (keptCount s v n) ++ restOf s v n)
-unfolding keptCount restOf
-file-form s v n e = by (eqb r 0) refl
-  where
-    r : ℕ
-    r = refusalOf s v n 256 256 256
+  -- before dropping: 12 cannot be, there is room
+  abbrev Refused : ℕ → Type 0
+  Refused r = eqb r 0 ≡ false → Printed (refusedAt r (length qs))
 
-    qs : List Quote
-    qs = keptOf s
+  refused-0 : Refused 0
+  refused-0 h = false-true (sym h)
 
-    whole : List ℕ
-    whole = fitRest (configOf s v) (map kOf qs) (map wOf qs) (map weightOf qs) (fitOf (tauOf s v) (configOf s v) (map kOf qs) (map wOf qs) (map weightOf qs) 1024 256)
+  refused-10 : Refused 10
+  unfolding restText refusalText refusedOf refusedWith
+  refused-10 h = before-dropping 10 (length qs) refl
 
-    small : length qs ≤ 256
-    small = kept-small s v n e
+  refused-11 : Refused 11
+  unfolding restText refusalText refusedOf refusedWith
+  refused-11 h = before-dropping 11 (length qs) refl
 
-    by : (b : Bool) → eqb r 0 ≡ b → Form (readLine n (unless b n (length qs)) ++ unless b (refusedLine r 0 0) whole)
-    by false f = before-dropping r n (early-form s v n (file-is s v n e .1) f)
-    by true f =
-        let p = passed s v n 256 256 256 (eqb-true r 0 f) in
-        fit-form n (length qs) (tauOf s v) (configOf s v) (map kOf qs) (map wOf qs) (map weightOf qs) (length-map qs kOf) 1024 256 (columns-fit qs small)
-        (sizes-same (length (map kOf qs)) n (configOf s v) (omega (arith, length-map qs kOf, small)) (file-is s v n e .1) ∙ p .1)
-        (columns-pass qs (ap allPass (sym (kept-file s v n e)) ∙ kept-passes (recordsAt s v n) ∙ p .2))
+  refused : Refused (intakeNumber config qs 1024 256)
+  unfolding intakeNumber
+  refused =
+      rw (le-leb (length qs * 4) 1024 (omega arith), le-leb (length qs) 256 l)
+      (cond-ind Refused (sizesHold (length qs) config) (cond-ind Refused (allPass qs) refused-0 refused-10) refused-11)
 
-malformed-form : (s : List ℕ) → Malformed ≡ houseOf s → Form (answerOf s)
-unfolding answerOf takenOf
-malformed-form s e =
-    subst Form
-    (sym (early-bare 43 0 refl) ∙ ap (λ (h : House). let t = takenFor s h 256 256 256 in unless (eqb (t .number) 0) (earlyText (t .number) (t .read)) (fitText s t (map kOf (keptOf s)) (map wOf (keptOf s)) (map weightOf (keptOf s)))) e)
-    malformed
+  quotes-form : Printed (quotesOutcome tau config qs 1024 256)
+  unfolding quotesOutcome restText
+  quotes-form = by (eqb r 0) refl
+    where
+      r : ℕ
+      r = intakeNumber config qs 1024 256
+
+      ks : List Quote
+      ks = firsts qs
+
+      small : length ks ≤ 256
+      small = omega (arith, kept-short qs)
+
+      by : (b : Bool) → eqb r 0 ≡ b → Printed (unless b (refusedAt r (length qs)) (outcomeWith (length qs) (length ks) (fitFor tau config ks 1024 256)))
+      by false f = refused f
+      by true f =
+          let p = passed config qs 1024 256 (eqb-true r 0 f) in
+          fit-form (length qs) (length ks) tau config (map kOf ks) (map wOf ks) (map weightOf ks) (length-map ks kOf) 1024 256 (columns-fit ks small)
+          (sizes-same (length (map kOf ks)) (length qs) config (omega (arith, length-map ks kOf, small)) l ∙ p .1)
+          (columns-pass ks (kept-passes qs ∙ p .2))
+
+-- of a file, by what it holds
+by : (s : List ℕ) (h : House) → h ≡ houseOf s
+    → (let o = outcomeFor s h 1024 256 in Form (cond (eqb (o .fit .number) 43) malformedText (readLine (o .read) (o .kept) ++ restText (o .fit) (settingsFor s h) (keptFor s h))))
+unfolding refusedWith
+by s Malformed e = malformed
+by s (File v n) e =
+    let qs = recordsAt s v n in
+    cond-ind Form (eqb (quotesOutcome (tauOf s v) (configOf s v) qs 1024 256 .fit .number) 43) malformed
+    (quotes-form (tauOf s v) (configOf s v) qs (omega (arith, quotes-length s (20 + 88 * v) n, file-is s v n e .1)))
 
 pub one-of-the-forms : (s : List ℕ) → Form (answerOf s)
-one-of-the-forms s = by (houseOf s) refl
-  where
-    by : (h : House) → h ≡ houseOf s → Form (answerOf s)
-    by Malformed e = malformed-form s e
-    by (File v n) e = subst Form (sym (answer-is s v n e)) (file-form s v n e)
+unfolding answerOf restOf fileOutcome settingsOf keptOf
+one-of-the-forms s = by s (houseOf s) refl

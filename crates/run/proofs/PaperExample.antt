@@ -6,12 +6,12 @@ use lib.ListN.{replicate}
 use Rattle.house.specs.declared.Quote.{Quote}
 use Rattle.house.specs.File.{houseOf, f64At, tauOf, configOf, quoteAt, quotes}
 use Rattle.house.specs.Check.{quotePasses, allPass}
-use Rattle.house.specs.Repeats.{sameQuote, among, one, keptAfter, kept}
-use Rattle.house.specs.Taken.{refusalOf, takenOf, keptOf}
+use Rattle.house.specs.Repeats.{sameQuote, among, unrepeated, keptAfter, kept}
+use Rattle.house.specs.Taken.{intakeNumber, keptOf}
 use Rattle.house.specs.Encode.{wordsBytes, quotesBytes, fileBytes}
 use Rattle.text.specs.Lines.{ascii, readLine, refusedLine}
 use Rattle.text.specs.Digits.{digitsOf, each}
-use Rattle.text.specs.Answers.{refusedOf, refusalText, refusedText}
+use Rattle.text.specs.Answers.{refusedOf, refusalText}
 use Rattle.bits.specs.Bytes.{u64At}
 use Rattle.laws.specs.Loop.{turns}
 use Rattle.laws.specs.Floats.{finite}
@@ -20,7 +20,8 @@ use Rattle.entry.specs.Entry.{lengthsHold, columnsPass, checksNumber, entryNumb
 use Rattle.records.specs.Settings.{sizesHold, settingsHold}
 use Rattle.records.specs.Answer.{refusedWith}
 use Rattle.calibrate.specs.Fit.{fitOf}
-use Rattle.run.specs.Answer.{answerText, fitText, answerOf}
+use Rattle.outcome.specs.Outcome.{fileOutcome, quotesOutcome, settingsOf}
+use Rattle.run.specs.Answer.{restText, restOf, answerOf}
 
 abbrev pub record-7 : Quote
 record-7 = record { number = 7; k = 0; w = 0x3fd0_0000_0000_0000; weight = 0x3ff0_0000_0000_0000 }
@@ -31,22 +32,24 @@ paper-file = fileBytes 0 [] 0x3fd0_0000_0000_0000 (replicate 9 record-7)
 pub paper-example : answerOf paper-file ≡ ascii "read 9 kept 1\nrefused 3 1 5\n"
 unfolding
     answerOf
-    fitText
-    answerText
-    takenOf
+    restOf
+    restText
+    fileOutcome
+    quotesOutcome
+    settingsOf
     keptOf
     houseOf
     tauOf
     f64At
     configOf
-    refusalOf
+    intakeNumber
     quotes
     quoteAt
     quotePasses
     allPass
     kept
     keptAfter
-    one
+    unrepeated
     among
     sameQuote
     fileBytes
@@ -61,7 +64,6 @@ unfolding
     columnsPass
     settingsHold
     refusedWith
-    refusedText
     refusalText
     refusedOf
     readLine

@@ -1,52 +1,72 @@
--- From the answers of the parts to the answer of the whole. Assumes nothing.
-use Prim.Native.Nat.{ℕ, _≤_}
+-- From the outcome to the text. Assumes nothing.
+use Prim.Native.Nat.{ℕ, _*_, _≤_}
 use mathlib.Core.Path.{_≡_, refl, ap, _∙_}
-use mathlib.Core.List.{List, map}
+use mathlib.Core.Bool.{true, _&&_}
+use mathlib.Core.List.{List, _++_, map}
 use native.Mathlib.Omega.{arith}
-use lib.ListN.{length}
+use lib.Dec.{leb}
+use lib.ListN.{length, length-map}
 use lib.Ieee.{Float}
-use Rattle.laws.proofs.Choices.{number-stops, number-goes}
-use Rattle.weights.specs.Weights.{cappedOf}
-use Rattle.records.specs.declared.FitConfig.{FitConfig}
-use Rattle.records.specs.declared.FitAnswer.{FitAnswer}
-use Rattle.calibrate.specs.Fit.{fitOf, residualsOf}
-use Rattle.house.specs.File.{tauOf, configOf}
+use borrow.Author.Tests.{eq-eqb, ne-eqb, le-leb}
+use Rattle.laws.proofs.Choices.{if-true, if-false, number-stops, number-goes}
 use Rattle.house.specs.Check.{kOf, wOf, weightOf}
-use Rattle.house.specs.Taken.{takenOf, keptOf}
-use Rattle.house.specs.declared.Taken.{Taken}
+use Rattle.house.specs.Taken.{keptOf}
+use Rattle.outcome.specs.declared.Outcome.{Outcome}
+use Rattle.outcome.specs.Outcome.{fileOutcome, settingsOf, residualsFor, cappedFor}
+use Rattle.outcome.proofs.Fits.{residuals-long, capped-short, file-counts}
+use Rattle.text.specs.Lines.{readLine}
 use Rattle.text.specs.Place.{placed}
-use Rattle.text.specs.Answers.{earlyText, refusedText, acceptedText}
-use Rattle.run.specs.Answer.{answerText, fitText, answerOf}
+use Rattle.text.specs.Answers.{malformedText, refusedText, acceptedText}
+use Rattle.text.proofs.Answering.{accepted-full}
+use Rattle.run.specs.Answer.{restText, restOf, answerOf}
 
 -- a text: its length, where it is placed, and that it is not long
 pub said : {r : ℕ} {o′ : List ℕ} (o t u : List ℕ) (n : ℕ) → n ≤ 32768 → t ≡ u → (r ≡ length t) × ((o′ ≡ placed t o) × (r ≤ n)) → (r ≡ length u) × ((o′ ≡ placed u o) × (r ≤ 32768))
 said o t u n l e h = (h .0 ∙ ap length e, (h .1 .0 ∙ ap (λ (x : List ℕ). placed x o) e, omega (arith, l, h .1 .1)))
 
-module _ (file : List ℕ) (t : Taken) (ks ws ts : List Float) (tau : Float) (config : FitConfig) (a : FitAnswer) (p : tau ≡ tauOf file (t .settings)) (q : config ≡ configOf file (t .settings)) (e : a ≡ fitOf tau config ks ws ts 1024 256) where
-  fit-is : answerText (t .read) (t .kept) config ks ws ts a ≡ fitText file t ks ws ts
-  unfolding fitText
-  fit-is = rw (e, p, q)
+module _ (s : List ℕ) (o : Outcome) (e : o ≡ fileOutcome s 1024 256) where
+  behind : restText (o .fit) (settingsOf s) (keptOf s) ≡ restOf s
+  unfolding restOf
+  behind = ap (λ (o : Outcome). restText (o .fit) (settingsOf s) (keptOf s)) e
 
-  pub fit-refused : (a .number ≡ 0 → ⊥) → refusedText (t .read) (t .kept) a ≡ fitText file t ks ws ts
-  unfolding answerText
-  fit-refused h = number-stops _ refl h refl ∙ fit-is
-
-  pub fit-accepted : a .number ≡ 0 → acceptedText (t .read) (t .kept) a (residualsOf (a .slice) ks ws) (cappedOf (config .«max_weight_ratio») ts) ≡ fitText file t ks ws ts
-  unfolding answerText
-  fit-accepted h = number-goes _ refl h refl ∙ fit-is
-
-module _ (file : List ℕ) (t : Taken) (e : t ≡ takenOf file 256 256 256) where
-  pub answer-early : (t .number ≡ 0 → ⊥) → earlyText (t .number) (t .read) ≡ answerOf file
+  pub says-malformed : o .fit .number ≡ 43 → malformedText ≡ answerOf s
   unfolding answerOf
-  answer-early h = rw (← e) (number-stops _ refl h refl)
+  says-malformed h = rw (← e) (if-true _ (eq-eqb (o .fit .number) 43 h) refl)
 
-  pub answer-fit : t .number ≡ 0 → fitText file t (map kOf (keptOf file)) (map wOf (keptOf file)) (map weightOf (keptOf file)) ≡ answerOf file
+  -- any other text is the `read` line and the rest
+  says : (rest : List ℕ) → (o .fit .number ≡ 43 → ⊥) → rest ≡ restText (o .fit) (settingsOf s) (keptOf s) → readLine (o .read) (o .kept) ++ rest ≡ answerOf s
   unfolding answerOf
-  answer-fit h = rw (← e) (number-goes _ refl h refl)
+  says rest h f = rw (← e) (if-false _ (ne-eqb (o .fit .number) 43 h) (ap (λ (t : List ℕ). readLine (o .read) (o .kept) ++ t) (f ∙ behind)))
 
--- what the columns and the buffers hold at their fronts
-pub same-fit : (file : List ℕ) (t : Taken) {k k′ w w′ s s′ : List Float} → k ≡ k′ → w ≡ w′ → s ≡ s′ → fitText file t k w s ≡ fitText file t k′ w′ s′
-same-fit file t p q r = rw (p, q, r)
+  pub says-refused : (o .fit .number ≡ 43 → ⊥) → (o .fit .number ≡ 0 → ⊥) → refusedText (o .read) (o .kept) (o .fit) ≡ answerOf s
+  unfolding refusedText restText
+  says-refused h k = says _ h (number-stops _ refl k refl)
 
-pub same-accepted : (read kept : ℕ) (a : FitAnswer) {r r′ : List Float} {p p′ : List ℕ} → r ≡ r′ → p ≡ p′ → acceptedText read kept a r p ≡ acceptedText read kept a r′ p′
-same-accepted read kept a e f = rw (e, f)
+  module _ (z : o .fit .number ≡ 0) where
+    few : length (keptOf s) ≤ 256
+    few = file-counts s 1024 256 o e z .1
+
+    pub rows-are : o .kept * 4 ≡ length (residualsFor (o .fit .slice) (keptOf s))
+    rows-are = omega (arith, file-counts s 1024 256 o e z .0, length-map (keptOf s) kOf, residuals-long (o .fit .slice) (map kOf (keptOf s)) (map wOf (keptOf s)))
+
+    pub capped-are : o .fit .capped ≡ length (cappedFor (settingsOf s) (keptOf s))
+    capped-are = file-counts s 1024 256 o e z .2
+
+    rows-few : length (residualsFor (o .fit .slice) (keptOf s)) ≤ 1024
+    rows-few = omega (arith, few, length-map (keptOf s) kOf, residuals-long (o .fit .slice) (map kOf (keptOf s)) (map wOf (keptOf s)))
+
+    pub capped-few : length (cappedFor (settingsOf s) (keptOf s)) ≤ 256
+    capped-few = omega (arith, few, length-map (keptOf s) weightOf, capped-short (settingsOf s .«max_weight_ratio») (map weightOf (keptOf s)))
+
+    pub says-accepted :
+        (residuals : List Float) (capped : List ℕ) → residuals ≡ residualsFor (o .fit .slice) (keptOf s) → capped ≡ cappedFor (settingsOf s) (keptOf s)
+        → acceptedText (o .read) (o .kept) (o .fit) residuals capped ≡ answerOf s
+    unfolding restText
+    says-accepted residuals capped p q =
+        let rs = residualsFor (o .fit .slice) (keptOf s) in
+        let cs = cappedFor (settingsOf s) (keptOf s) in
+        let sized : (leb (length rs) 1024 && leb (length cs) 256) ≡ true = rw (le-leb (length rs) 1024 rows-few, le-leb (length cs) 256 capped-few) in
+        ap (λ (r : List Float). acceptedText (o .read) (o .kept) (o .fit) r capped) p
+        ∙ ap (acceptedText (o .read) (o .kept) (o .fit) rs) q
+        ∙ accepted-full (o .read) (o .kept) (o .fit) rs cs sized
+        ∙ says _ (λ h. omega (arith, h, z)) (number-goes _ refl z refl)

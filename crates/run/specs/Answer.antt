@@ -1,35 +1,29 @@
 -- What the fit program answers to a file: every byte of it. Definitions only.
 use Prim.Native.Nat.{ℕ}
-use mathlib.Core.List.{List, map}
+use mathlib.Core.Bool.{cond}
+use mathlib.Core.List.{List, _++_}
 use lib.Dec.{eqb}
-use lib.Ieee.{Float}
 use Rattle.laws.specs.Choice.{unless}
-use Rattle.weights.specs.Weights.{cappedOf}
-use Rattle.calibrate.specs.Fit.{fitOf, residualsOf}
 use Rattle.records.specs.declared.FitConfig.{FitConfig}
 use Rattle.records.specs.declared.FitAnswer.{FitAnswer}
-use Rattle.house.specs.File.{tauOf, configOf}
-use Rattle.house.specs.Check.{kOf, wOf, weightOf}
-use Rattle.house.specs.Taken.{takenOf, keptOf}
-use Rattle.house.specs.declared.Taken.{Taken}
-use Rattle.text.specs.Answers.{earlyText, refusedText, acceptedText}
+use Rattle.house.specs.declared.Quote.{Quote}
+use Rattle.house.specs.Taken.{keptOf}
+use Rattle.outcome.specs.Outcome.{fileOutcome, settingsOf, residualsFor, cappedFor}
+use Rattle.text.specs.Lines.{readLine, cappedLine, pointLines}
+use Rattle.text.specs.Answers.{malformedText, refusalText, figuresText}
 
--- the text of a fit's answer: with the residuals and the capped positions that an accepted fit leaves
-unfoldable pub answerText : ℕ → ℕ → FitConfig → List Float → List Float → List Float → FitAnswer → List ℕ
-answerText read kept config ks ws ts a =
-    unless (eqb (a .number) 0) (refusedText read kept a)
-    (acceptedText read kept a (residualsOf (a .slice) ks ws) (cappedOf (config .«max_weight_ratio») ts))
+-- the lines of a refusal, or of an accepted fit of quotes with these settings
+unfoldable pub restText : FitAnswer → FitConfig → List Quote → List ℕ
+restText a config qs =
+    unless (eqb (a .number) 0) (refusalText a)
+    (figuresText a ++ (cappedLine (cappedFor config qs) ++ pointLines (residualsFor (a .slice) qs)))
 
--- the fit of the kept observations, with room for 256 of them
-unfoldable pub fitText : List ℕ → Taken → List Float → List Float → List Float → List ℕ
-fitText file t ks ws ts =
-    let config = configOf file (t .settings) in
-    answerText (t .read) (t .kept) config ks ws ts (fitOf (tauOf file (t .settings)) config ks ws ts 1024 256)
+-- what stands behind a file's `read` line, with room for 1024 residual numbers and 256 capped positions
+unfoldable pub restOf : List ℕ → List ℕ
+restOf file = restText (fileOutcome file 1024 256 .fit) (settingsOf file) (keptOf file)
 
--- refused before repeats are dropped, or the fit of the first of each record
+-- a malformed file's one line, or the `read` line and the rest
 unfoldable pub answerOf : List ℕ → List ℕ
 answerOf file =
-    let t = takenOf file 256 256 256 in
-    let qs = keptOf file in
-    unless (eqb (t .number) 0) (earlyText (t .number) (t .read))
-    (fitText file t (map kOf qs) (map wOf qs) (map weightOf qs))
+    let o = fileOutcome file 1024 256 in
+    cond (eqb (o .fit .number) 43) malformedText (readLine (o .read) (o .kept) ++ restOf file)

@@ -10,16 +10,7 @@ use borrow.Author.Tests.{eq-eqb, ne-eqb}
 use Rattle.laws.specs.Choice.{unless}
 use Rattle.records.specs.declared.FitAnswer.{FitAnswer}
 use Rattle.text.specs.Lines.{readLine, searchLine, cappedLine, pointLines, refusedLine, refusedFloats}
-use Rattle.text.specs.Answers.{earlyText, isLate, refusedOf, refusalText, figuresText, acceptedText}
-
-module _ (number read : ℕ) where
-  pub early-bare : number ≡ 43 → earlyText number read ≡ refusedLine number 0 0
-  unfolding earlyText
-  early-bare e = ap (λ (b : Bool). cond b [] (readLine read read) ++ refusedLine number 0 0) (eq-eqb number 43 e)
-
-  pub early-full : (number ≡ 43 → ⊥) → earlyText number read ≡ readLine read read ++ refusedLine number 0 0
-  unfolding earlyText
-  early-full h = ap (λ (b : Bool). cond b [] (readLine read read) ++ refusedLine number 0 0) (ne-eqb number 43 h)
+use Rattle.text.specs.Answers.{isLate, refusedOf, refusalText, figuresText, acceptedText}
 
 module _ (a : FitAnswer) where
   pub refused-nine : a .number ≡ 9 → refusedOf a ≡ refusedFloats (a .«rmse_vol») (a .«max_rmse_vol»)

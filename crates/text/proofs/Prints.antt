@@ -7,7 +7,7 @@ use Rattle.laws.specs.Loop.{turns}
 use Rattle.laws.specs.Floats.{f64}
 use Rattle.text.specs.Digits.{digitsOf, decimalOf, hexOf, each, marksOf}
 use Rattle.text.specs.Lines.{ascii, refusedLine, activeLine}
-use Rattle.text.specs.Answers.{earlyText}
+use Rattle.text.specs.Answers.{malformedText}
 
 pub nan-prints : hexOf (toBits binary64 nan) ≡ ascii "7ff8000000000000"
 unfolding toBits digitsOf
@@ -30,6 +30,6 @@ pub marks-print : activeLine (false ∷ false ∷ false ∷ false ∷ false ∷ 
 unfolding activeLine marksOf turns
 marks-print = refl
 
-pub malformed-prints : earlyText 43 0 ≡ ascii "refused 43 0 0\n"
-unfolding earlyText refusedLine each digitsOf
+pub malformed-prints : malformedText ≡ ascii "refused 43 0 0\n"
+unfolding refusedLine each digitsOf
 malformed-prints = refl

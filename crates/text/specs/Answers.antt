@@ -9,11 +9,11 @@ use Rattle.laws.specs.Choice.{unless}
 use Rattle.records.specs.declared.FitAnswer.{FitAnswer}
 use Rattle.text.specs.Lines.{readLine, fitLine, searchLine, marginsLine, activeLine, cappedLine, pointLines, refusedLine, refusedFloats}
 
--- refused before repeats are dropped, so that as many are kept as are read; a malformed file, 43, has no `read` line
-unfoldable pub earlyText : ℕ → ℕ → List ℕ
-earlyText number read = cond (eqb number 43) [] (readLine read read) ++ refusedLine number 0 0
+-- a malformed file has no `read` line
+abbrev pub malformedText : List ℕ
+malformedText = refusedLine 43 0 0
 
--- 9 has its floats, and any other the two counts, which the fit sets to 0 but for 3
+-- 9 has its floats, and any other the two counts, which are 0 but for 3
 unfoldable pub refusedOf : FitAnswer → List ℕ
 refusedOf a = cond (eqb (a .number) 9) (refusedFloats (a .«rmse_vol») (a .«max_rmse_vol»)) (refusedLine (a .number) (a .observed) (a .required))
 
@@ -21,7 +21,7 @@ refusedOf a = cond (eqb (a .number) 9) (refusedFloats (a .«rmse_vol») (a .«ma
 abbrev pub isLate : ℕ → Bool
 isLate number = leb 6 number && leb number 9
 
--- refused by the fit: for 6 to 9 `search` stands before the refusal
+-- any other refusal: for 6 to 9 `search` stands before it
 unfoldable pub refusalText : FitAnswer → List ℕ
 refusalText a = cond (isLate (a .number)) (searchLine (a .counts)) [] ++ refusedOf a
 

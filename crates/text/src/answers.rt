@@ -7,18 +7,7 @@ ghost use Prim.Native.Nat.{_+_, _*_, _/_, _≤_};
 ghost use lib.ListN.{length};
 ghost use Rattle.text.specs.Place.{Wrote};
 ghost use Rattle.text.specs.Lines.{cappedLine, pointLines};
-ghost use Rattle.text.specs.Answers.{isLate, earlyText, refusedOf, refusalText, figuresText};
-
-pub(crate) fn early(out: &mut [u8], number: u32, read: usize) -> usize
-    requires { ⌜ 128 ≤ length (now out) ⌝ }
-    ensures { λ r. ⌜ Wrote (now (out .entry)) (now (out .exit)) 0 r (earlyText number read) ⌝ }
-{
-    if number == 43 {
-        return lines::refused_line(out, 0, number, 0, 0);
-    }
-    let p = lines::read_line(out, 0, read, read);
-    lines::refused_line(out, p, number, 0, 0)
-}
+ghost use Rattle.text.specs.Answers.{isLate, refusedOf, refusalText, figuresText};
 
 // 9 has its floats, and any other refusal the two counts.
 fn refused_of(out: &mut [u8], at: usize, a: FitAnswer) -> usize

@@ -11,7 +11,7 @@ ghost use Prim.Native.Nat.{_≤_};
 ghost use lib.Dec.{leb};
 ghost use lib.ListN.{length};
 ghost use Rattle.text.specs.Place.{placed};
-ghost use Rattle.text.specs.Answers.{earlyText, refusedText, acceptedText};
+ghost use Rattle.text.specs.Answers.{malformedText, refusedText, acceptedText};
 
 // Hands a text over.
 fn give(text: &[u8], out: &mut [u8]) -> usize
@@ -24,18 +24,18 @@ fn give(text: &[u8], out: &mut [u8]) -> usize
     digits::put_text(out, 0, text)
 }
 
-// The answer to a file that was refused before its repeats were dropped.
-pub fn refused_early(number: u32, read: usize, out: &mut [u8]) -> usize
-    ensures { λ r. ⌜ r ≡ length (earlyText number read) ⌝ }
-    ensures { λ r. ⌜ now (out .exit) ≡ placed (earlyText number read) (now (out .entry)) ⌝ }
+// The answer to a malformed file.
+pub fn malformed(out: &mut [u8]) -> usize
+    ensures { λ r. ⌜ r ≡ length malformedText ⌝ }
+    ensures { λ r. ⌜ now (out .exit) ≡ placed malformedText (now (out .entry)) ⌝ }
     ensures { λ r. ⌜ r ≤ 128 ⌝ }
 {
     let mut page = [0u8; 128];
-    let n = answers::early(&mut page, number, read);
+    let n = lines::refused_line(&mut page, 0, 43, 0, 0);
     give(&page[..n], out)
 }
 
-// The answer to a file that the fit refused.
+// The answer to any other file that is refused.
 pub fn refused(read: usize, kept: usize, a: FitAnswer, out: &mut [u8]) -> usize
     ensures { λ r. ⌜ r ≡ length (refusedText read kept a) ⌝ }
     ensures { λ r. ⌜ now (out .exit) ≡ placed (refusedText read kept a) (now (out .entry)) ⌝ }
@@ -47,7 +47,7 @@ pub fn refused(read: usize, kept: usize, a: FitAnswer, out: &mut [u8]) -> usize
     give(&page[..n], out)
 }
 
-// The answer to a file that the fit accepted. More than 256 points, or capped positions, no answer has: then the text is empty.
+// The answer to a file whose fit is accepted. More than 256 points, or capped positions, no answer has: then the text is empty.
 pub fn accepted(
     read: usize,
     kept: usize,

@@ -16,6 +16,7 @@ pub mod SettledJudge
 pub mod SettledSearch
 pub mod SettledCalibrate
 pub mod SettledHouse
+pub mod SettledOutcome
 pub mod SettledText
 pub mod SettledRun
 pub mod SettledPort

@@ -1,12 +1,11 @@
 -- No second answer meets the contract of a public function of crate `house`. Written by tools/settle from the contracts. Assumes nothing.
 use Prim.Native.Nat.{ℕ}
 use Rattle.house.specs.Check.{kOf, wOf, weightOf}
-use Rattle.house.specs.File.{configOf, houseOf, tauOf}
-use Rattle.house.specs.Taken.{keptOf, takenOf}
+use Rattle.house.specs.File.{configOf, houseOf, recordsOf, tauOf}
+use Rattle.house.specs.Taken.{intakeNumber, takenOf}
 use Rattle.house.specs.declared.House.{House}
-use Rattle.house.specs.declared.Taken.{Taken}
 use Rattle.laws.proofs.Choices.{settled}
-use Rattle.laws.specs.Room.{written}
+use Rattle.laws.specs.Room.{atFront}
 use Rattle.records.specs.declared.FitConfig.{FitConfig}
 use lib.Ieee.{Float}
 use lib.ListN.{length}
@@ -25,6 +24,10 @@ tau-of s settings h₁ h₂ = settled h₁ h₂
 pub config-of : (s : List ℕ) (settings : ℕ) {r₁ r₂ : FitConfig} → (r₁ ≡ configOf s settings) → (r₂ ≡ configOf s settings) → r₁ ≡ r₂
 config-of s settings h₁ h₂ = settled h₁ h₂
 
--- house::take_in
-pub take-in : (s : List ℕ) (k : List Float) (w : List Float) (weight : List Float) {r₁ r₂ : Taken} {k-exit₁ k-exit₂ : List Float} {w-exit₁ w-exit₂ : List Float} {weight-exit₁ weight-exit₂ : List Float} → ((r₁ ≡ takenOf s (length k) (length w) (length weight)) × (k-exit₁ ≡ written (r₁ .number) (map kOf (keptOf s)) k) × (w-exit₁ ≡ written (r₁ .number) (map wOf (keptOf s)) w) × (weight-exit₁ ≡ written (r₁ .number) (map weightOf (keptOf s)) weight)) → ((r₂ ≡ takenOf s (length k) (length w) (length weight)) × (k-exit₂ ≡ written (r₂ .number) (map kOf (keptOf s)) k) × (w-exit₂ ≡ written (r₂ .number) (map wOf (keptOf s)) w) × (weight-exit₂ ≡ written (r₂ .number) (map weightOf (keptOf s)) weight)) → (r₁ ≡ r₂) × (k-exit₁ ≡ k-exit₂) × (w-exit₁ ≡ w-exit₂) × (weight-exit₁ ≡ weight-exit₂)
-take-in s k w weight {r₁} {r₂} {k-exit₁} {k-exit₂} {w-exit₁} {w-exit₂} {weight-exit₁} {weight-exit₂} h₁ h₂ = (cc, cc, cc, cc)
+-- house::intake_number
+pub intake-number : (s : List ℕ) (config : FitConfig) (room : ℕ) (slots : ℕ) {r₁ r₂ : ℕ} → (r₁ ≡ intakeNumber config (recordsOf s) room slots) → (r₂ ≡ intakeNumber config (recordsOf s) room slots) → r₁ ≡ r₂
+intake-number s config room slots h₁ h₂ = settled h₁ h₂
+
+-- house::take
+pub take : (s : List ℕ) (k : List Float) (w : List Float) (weight : List Float) {r₁ r₂ : ℕ} {k-exit₁ k-exit₂ : List Float} {w-exit₁ w-exit₂ : List Float} {weight-exit₁ weight-exit₂ : List Float} → ((r₁ ≡ length (takenOf (recordsOf s) (length k) (length w) (length weight))) × (k-exit₁ ≡ atFront (map kOf (takenOf (recordsOf s) (length k) (length w) (length weight))) k) × (w-exit₁ ≡ atFront (map wOf (takenOf (recordsOf s) (length k) (length w) (length weight))) w) × (weight-exit₁ ≡ atFront (map weightOf (takenOf (recordsOf s) (length k) (length w) (length weight))) weight)) → ((r₂ ≡ length (takenOf (recordsOf s) (length k) (length w) (length weight))) × (k-exit₂ ≡ atFront (map kOf (takenOf (recordsOf s) (length k) (length w) (length weight))) k) × (w-exit₂ ≡ atFront (map wOf (takenOf (recordsOf s) (length k) (length w) (length weight))) w) × (weight-exit₂ ≡ atFront (map weightOf (takenOf (recordsOf s) (length k) (length w) (length weight))) weight)) → (r₁ ≡ r₂) × (k-exit₁ ≡ k-exit₂) × (w-exit₁ ≡ w-exit₂) × (weight-exit₁ ≡ weight-exit₂)
+take s k w weight {r₁} {r₂} {k-exit₁} {k-exit₂} {w-exit₁} {w-exit₂} {weight-exit₁} {weight-exit₂} h₁ h₂ = (cc, cc, cc, cc)

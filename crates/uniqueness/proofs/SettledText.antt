@@ -1,16 +1,16 @@
 -- No second answer meets the contract of a public function of crate `text`. Written by tools/settle from the contracts. Assumes nothing.
 use Prim.Native.Nat.{_≤_, ℕ}
 use Rattle.records.specs.declared.FitAnswer.{FitAnswer}
-use Rattle.text.specs.Answers.{acceptedText, earlyText, refusedText}
+use Rattle.text.specs.Answers.{acceptedText, malformedText, refusedText}
 use Rattle.text.specs.Place.{placed}
 use lib.Ieee.{Float}
 use lib.ListN.{length}
 use mathlib.Core.List.{List}
 use mathlib.Core.Path.{_≡_}
 
--- text::refused_early
-pub refused-early : (number : ℕ) (read : ℕ) (out : List ℕ) {r₁ r₂ : ℕ} {out-exit₁ out-exit₂ : List ℕ} → ((r₁ ≡ length (earlyText number read)) × (out-exit₁ ≡ placed (earlyText number read) out) × (r₁ ≤ 128)) → ((r₂ ≡ length (earlyText number read)) × (out-exit₂ ≡ placed (earlyText number read) out) × (r₂ ≤ 128)) → (r₁ ≡ r₂) × (out-exit₁ ≡ out-exit₂)
-refused-early number read out {r₁} {r₂} {out-exit₁} {out-exit₂} h₁ h₂ = (cc, cc)
+-- text::malformed
+pub malformed : (out : List ℕ) {r₁ r₂ : ℕ} {out-exit₁ out-exit₂ : List ℕ} → ((r₁ ≡ length malformedText) × (out-exit₁ ≡ placed malformedText out) × (r₁ ≤ 128)) → ((r₂ ≡ length malformedText) × (out-exit₂ ≡ placed malformedText out) × (r₂ ≤ 128)) → (r₁ ≡ r₂) × (out-exit₁ ≡ out-exit₂)
+malformed out {r₁} {r₂} {out-exit₁} {out-exit₂} h₁ h₂ = (cc, cc)
 
 -- text::refused
 pub refused : (read : ℕ) (kept : ℕ) (a : FitAnswer) (out : List ℕ) {r₁ r₂ : ℕ} {out-exit₁ out-exit₂ : List ℕ} → ((r₁ ≡ length (refusedText read kept a)) × (out-exit₁ ≡ placed (refusedText read kept a) out) × (r₁ ≤ 256)) → ((r₂ ≡ length (refusedText read kept a)) × (out-exit₂ ≡ placed (refusedText read kept a) out) × (r₂ ≤ 256)) → (r₁ ≡ r₂) × (out-exit₁ ≡ out-exit₂)

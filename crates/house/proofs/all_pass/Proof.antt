@@ -10,10 +10,10 @@ use Rattle.house.proofs.all_pass.Statement.{statement}
 use Rattle.house.proofs.all_pass.Tie as tie
 
 abbrev Inv-loop : tie.InvT-loop
-Inv-loop s from n at₀ left₀ at left = (at + 32 * left ≤ length s) × (allPass (quotes s at left) ≡ allPass (quotes s from n))
+Inv-loop s n at₀ left₀ at left = (at + 32 * left ≤ length s) × (allPass (quotes s at left) ≡ allPass (quotes s 0 n))
 
 abbrev μ-loop : tie.MeasureT-loop
-μ-loop s from n at₀ left₀ at left = left
+μ-loop s n at₀ left₀ at left = left
 
 returns : tie.Need-returns Inv-loop μ-loop
 returns c = bad (c .before .before .quote-at .result) _ (c .before .before .before .before .loop .at) (c .before .before .before .before .loop .left) (c .before .quote-passes .result) _ (c .before .before .before .loop-test .taken) (c .before .before .quote-at .ensures) (c .before .quote-passes .ensures) (c .before .before .before .before .loop .inv .1) (c .if1 .taken)

@@ -14,20 +14,20 @@ use Rattle.house.proofs.keep.Statement.{statement}
 use Rattle.house.proofs.keep.Tie as tie
 
 abbrev Inv-loop : tie.InvT-loop
-Inv-loop s from n k₀ w₀ weight₀ i₀ m₀ k w weight i m =
+Inv-loop s n k₀ w₀ weight₀ i₀ m₀ k w weight i m =
     (i ≤ n)
     × (m ≤ i)
-    × Column kOf (kept (quotes s from n)) (rest s from n i) m k₀ k
-    × Column wOf (kept (quotes s from n)) (rest s from n i) m w₀ w
-    × Column weightOf (kept (quotes s from n)) (rest s from n i) m weight₀ weight
+    × Column kOf (kept (quotes s 0 n)) (rest s n i) m k₀ k
+    × Column wOf (kept (quotes s 0 n)) (rest s n i) m w₀ w
+    × Column weightOf (kept (quotes s 0 n)) (rest s n i) m weight₀ weight
 
 abbrev μ-loop : tie.MeasureT-loop
-μ-loop s from n k₀ w₀ weight₀ i₀ m₀ k w weight i m = n - i
+μ-loop s n k₀ w₀ weight₀ i₀ m₀ k w weight i m = n - i
 
 loop-holds : tie.Need-loop-holds Inv-loop μ-loop
 loop-holds c =
     let a = c .before .before .before .before .args in
-    let e = rest-start (a .s .now) (a .from) (a .n) in
+    let e = rest-start (a .s .now) (a .n) in
     (search needs, search needs, column-start kOf _ _ (a .k .now) e, column-start wOf _ _ (a .w .now) e, column-start weightOf _ _ (a .weight .now) e)
 
 loop-again : tie.Need-loop-again Inv-loop μ-loop
@@ -43,7 +43,7 @@ loop-again c =
     let hz : old .m < length (old .weight) = omega arith in
     ⊎-elim
     (λ w.
-    let e = rest-keep (a .s .now) (a .from) (a .n) (old .i) (y .repeated .result) more is (w .0 .taken) in
+    let e = rest-keep (a .s .now) (a .n) (old .i) (y .repeated .result) more is (w .0 .taken) in
     let q = w .1 .ensures in (
       search needs,
       omega (arith, w .8),
@@ -52,7 +52,7 @@ loop-again c =
       column-keep weightOf _ _ _ _ _ (old .m) _ _ (old .weight) _ hz e (w .4 .ensures ∙ ap weightOf q) (w .7) (w .8) (old .inv .4),
     ))
     (λ w.
-    let e = rest-drop (a .s .now) (a .from) (a .n) (old .i) (y .repeated .result) more is (w .0 .left) in (
+    let e = rest-drop (a .s .now) (a .n) (old .i) (y .repeated .result) more is (w .0 .left) in (
       search needs,
       omega (arith, w .4),
       column-skip kOf _ _ _ (old .m) _ _ (old .k) _ e (w .1) (w .4) (old .inv .2),
@@ -65,7 +65,7 @@ returns : tie.Need-returns Inv-loop μ-loop
 returns c =
     let l = c .before in
     let a = l .before .before .before .before .before .args in
-    let e = rest-end (a .s .now) (a .from) (a .n) (l .loop .i) (c .loop-test .left) in
+    let e = rest-end (a .s .now) (a .n) (l .loop .i) (c .loop-test .left) in
     let hk : l .loop .m ≤ length (l .loop .k) = omega arith in
     let hw : l .loop .m ≤ length (l .loop .w) = omega arith in
     let hz : l .loop .m ≤ length (l .loop .weight) = omega arith in
@@ -80,7 +80,6 @@ keep-spec =
     μ-loop
     loop-holds
     (λ c κs. search needs)
-    (λ c. search needs)
     (λ c. search needs)
     (λ c κs. search needs)
     (λ c κs. search needs)

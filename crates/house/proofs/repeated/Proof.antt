@@ -10,11 +10,11 @@ use Rattle.house.proofs.repeated.Statement.{statement}
 use Rattle.house.proofs.repeated.Tie as tie
 
 abbrev Inv-loop : tie.InvT-loop
-Inv-loop s from i q at₀ left₀ at left =
-    (at + 32 * left ≤ length s) × (among q (quotes s at left) ≡ among q (quotes s from i))
+Inv-loop s i q at₀ left₀ at left =
+    (at + 32 * left ≤ length s) × (among q (quotes s at left) ≡ among q (quotes s 0 i))
 
 abbrev μ-loop : tie.MeasureT-loop
-μ-loop s from i q at₀ left₀ at left = left
+μ-loop s i q at₀ left₀ at left = left
 
 returns : tie.Need-returns Inv-loop μ-loop
 returns c =
@@ -41,7 +41,6 @@ repeated-spec =
     (tie.spec
     Inv-loop
     μ-loop
-    (λ c. search needs)
     (λ c. search needs)
     (λ c κs. search needs)
     (λ c. search needs)

@@ -1,0 +1,5 @@
+pub mod Fronts
+pub mod Fits
+pub mod Coming
+pub mod OnlyMalformed
+pub mod RepeatsDoNotCount
