@@ -1,7 +1,6 @@
 // The end of the fit: the best cell's slice judged, and the answer.
 ghost use mathlib.Core.Path.{_≡_};
 ghost use lib.ListN.{length};
-ghost use Rattle.records.specs.Answer.{refusedWith};
 ghost use Rattle.calibrate.specs.End.{acceptedOf, endOf};
 ghost use Rattle.calibrate.specs.Fit.{bestEnd, searchEnd};
 use crate::params;
@@ -12,42 +11,6 @@ use search::Found;
 use search::Search;
 use slice::KRange;
 use slice::SviSlice;
-
-// Zeros but for what is handed in.
-pub(crate) fn refusal(
-    number: u32,
-    observed: usize,
-    required: usize,
-    rmse: f64,
-    max: f64,
-    counts: Counts,
-) -> FitAnswer
-    ensures { λ r. ⌜ r ≡ refusedWith number observed required rmse max counts ⌝ }
-{
-    FitAnswer {
-        number,
-        observed,
-        required,
-        rmse_vol: rmse,
-        max_rmse_vol: max,
-        slice: SviSlice {
-            tau: 0.0,
-            a: 0.0,
-            b: 0.0,
-            rho: 0.0,
-            m: 0.0,
-            sigma: 0.0,
-            k_range: KRange { lo: 0.0, hi: 0.0 },
-        },
-        objective: 0.0,
-        objective_params: 0.0,
-        lee_margin: 0.0,
-        a_margin: 0.0,
-        active: [false; 7],
-        counts,
-        capped: 0,
-    }
-}
 
 // ---- the answer
 
@@ -97,17 +60,17 @@ fn end(
 {
     let bad = slice::number(s);
     if bad != 0 {
-        return refusal(8, 0, 0, 0.0, 0.0, counts);
+        return records::refusal(8, 0, 0, 0.0, 0.0, counts);
     }
     let t = judge::sums_of(s, k, w, ts);
     let near = judge::params_hold(config, a_max, objective, t);
     if !near {
-        return refusal(8, 0, 0, 0.0, 0.0, counts);
+        return records::refusal(8, 0, 0, 0.0, 0.0, counts);
     }
     let rmse = judge::rmse_of(t, k.len());
     let small = judge::rmse_holds(config, rmse);
     if !small {
-        return refusal(9, 0, 0, rmse, config.max_rmse_vol, counts);
+        return records::refusal(9, 0, 0, rmse, config.max_rmse_vol, counts);
     }
     accepted(config, counts, objective, active, s, t.params, rmse)
 }
@@ -150,11 +113,11 @@ pub(crate) fn search_end(
 {
     let counts = s.counts;
     if s.refused {
-        return refusal(6, 0, 0, 0.0, 0.0, counts);
+        return records::refusal(6, 0, 0, 0.0, 0.0, counts);
     }
     let best = s.found;
     if best.on_edge {
-        return refusal(7, 0, 0, 0.0, 0.0, counts);
+        return records::refusal(7, 0, 0, 0.0, 0.0, counts);
     }
     best_end(tau, config, range, a_max, best, counts, k, w, ts)
 }

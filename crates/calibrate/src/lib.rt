@@ -7,7 +7,6 @@ ghost use mathlib.Core.Path.{_≡_};
 ghost use Rattle.calibrate.specs.Fit.{halfOf, planOf, limitsOf, decidedOf, refusedEarly, cappedAs, Fitted};
 ghost use Rattle.entry.specs.Sized.{Sized};
 use cell::Limits;
-use records::Counts;
 use records::FitAnswer;
 use records::FitConfig;
 use search::Axis;
@@ -76,19 +75,13 @@ fn refused_early(number: u32, given: usize, wanted: usize) -> FitAnswer
     ensures { λ r. ⌜ r ≡ refusedEarly number given wanted ⌝ }
 {
     let few = number == 3;
-    ending::refusal(
+    records::refusal(
         number,
         bits::pick_count(few, given, 0),
         bits::pick_count(few, wanted, 0),
         0.0,
         0.0,
-        Counts {
-            passes: 0,
-            recentres: 0,
-            shrinks: 0,
-            cells: 0,
-            faces: 0,
-        },
+        records::no_counts(),
     )
 }
 

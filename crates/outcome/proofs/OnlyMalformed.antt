@@ -14,7 +14,7 @@ use Rattle.weights.specs.Weights.{scaledOf, allGood}
 use Rattle.records.specs.declared.FitConfig.{FitConfig}
 use Rattle.records.specs.Settings.{settingsHold, sizesHold}
 use Rattle.records.specs.Answer.{refusedWith}
-use Rattle.entry.specs.Entry.{lengthsHold, allPass as columnsPass, rangeOf, spanOf, checksNumber, entryNumber}
+use Rattle.entry.specs.Entry.{lengthsHold, columnsPass, rangeOf, spanOf, checksNumber, entryNumber}
 use Rattle.judge.specs.Judge.{sumsOf, paramsHold, rmseOf, rmseHolds}
 use Rattle.calibrate.specs.Fit.{aMaxFor, scaledFor, fitSearch, sliceFrom, fitOf}
 use Rattle.calibrate.proofs.EachNumber.{lateNumber, answer-number}

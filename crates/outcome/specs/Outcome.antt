@@ -4,7 +4,7 @@ use mathlib.Core.List.{List, map}
 use lib.Dec.{eqb}
 use lib.ListN.{length}
 use lib.Ieee.{Float}
-use Rattle.laws.specs.Choice.{unless}
+use Rattle.laws.specs.Choice.{unless, refusing}
 use Rattle.laws.specs.Floats.{+0}
 use Rattle.slice.specs.declared.SviSlice.{SviSlice}
 use Rattle.weights.specs.Weights.{cappedOf}
@@ -36,8 +36,7 @@ fitFor tau config qs room slots = fitOf tau config (map kOf qs) (map wOf qs) (ma
 -- refused before repeats are dropped, or the fit of the first of each, with room for so many residual numbers and capped positions
 unfoldable pub quotesOutcome : Float → FitConfig → List Quote → ℕ → ℕ → Outcome
 quotesOutcome tau config qs room slots =
-    let number = intakeNumber config qs room slots in
-    unless (eqb number 0) (refusedAt number (length qs))
+    refusing (intakeNumber config qs room slots) (λ number. refusedAt number (length qs))
     (outcomeWith (length qs) (length (kept qs)) (fitFor tau config (kept qs) room slots))
 
 -- of quotes in bytes: 12 where these are no whole records

@@ -1,10 +1,7 @@
 // What a file, or quotes as they came in, come to: number, counts, slice, residuals, without a word of text. For every byte string and every room.
 use house::House;
-use records::Counts;
 use records::FitAnswer;
 use records::FitConfig;
-use slice::KRange;
-use slice::SviSlice;
 ghost use mathlib.Core.Path.{_≡_};
 ghost use Prim.Native.Nat.{_≤_};
 ghost use lib.ListN.{length, take};
@@ -26,35 +23,7 @@ pub struct Outcome {
 fn refused(number: u32, read: usize) -> Outcome
     ensures { λ r. ⌜ r ≡ refusedAt number read ⌝ }
 {
-    let fit = FitAnswer {
-        number,
-        observed: 0,
-        required: 0,
-        rmse_vol: 0.0,
-        max_rmse_vol: 0.0,
-        slice: SviSlice {
-            tau: 0.0,
-            a: 0.0,
-            b: 0.0,
-            rho: 0.0,
-            m: 0.0,
-            sigma: 0.0,
-            k_range: KRange { lo: 0.0, hi: 0.0 },
-        },
-        objective: 0.0,
-        objective_params: 0.0,
-        lee_margin: 0.0,
-        a_margin: 0.0,
-        active: [false; 7],
-        counts: Counts {
-            passes: 0,
-            recentres: 0,
-            shrinks: 0,
-            cells: 0,
-            faces: 0,
-        },
-        capped: 0,
-    };
+    let fit = records::refusal(number, 0, 0, 0.0, 0.0, records::no_counts());
     Outcome {
         read,
         kept: read,

@@ -1,8 +1,9 @@
-// The fit of one slice, for callers outside. Settings are two rows: sizes and reals.
+// The fit of one slice, of columns or of quotes as they came in, for callers outside. Settings are two rows: sizes and reals.
 ghost use mathlib.Core.Path.{_≡_};
 ghost use Rattle.records.specs.Settings.{defaultsOf};
 ghost use Rattle.port.specs.Rows.{readConfig, sizesRow, realsRow, fitCounts, fitValues};
-ghost use Rattle.port.specs.FitRows.{FittedRows};
+ghost use Rattle.port.specs.FitRows.{FittedRows, outcomeCounts, QuotesInRows};
+use outcome::Outcome;
 use records::FitAnswer;
 use records::FitConfig;
 
@@ -64,6 +65,25 @@ fn fit_values(a: FitAnswer) -> [f64; 14]
     ]
 }
 
+fn outcome_counts(o: Outcome) -> [usize; 10]
+    ensures { λ r. ⌜ r ≡ outcomeCounts o ⌝ }
+{
+    let a = o.fit;
+    let n = a.counts;
+    [
+        o.read,
+        o.kept,
+        a.observed,
+        a.required,
+        n.passes,
+        n.recentres,
+        n.shrinks,
+        n.cells,
+        n.faces,
+        a.capped,
+    ]
+}
+
 // ---- the exports
 
 // The default settings. sizes: grid, refinements, max_recentres, min_observations; reals: sigma_lo, sigma_hi, a_min, max_rmse_vol, pivot_tolerance, feasibility_tolerance, max_weight_ratio.
@@ -107,6 +127,34 @@ pub extern "C" fn port_raw_fit_slice(
     let a = calibrate::fit_slice(tau, config, k, w, weight, residuals, capped);
     let ns = fit_counts(a);
     *counts = ns;
+    let vs = fit_values(a);
+    *values = vs;
+    let marks = a.active;
+    *active = marks;
+    a.number
+}
+
+// Quotes as they came in, 32 bytes each as in a house file: repeats are dropped, then the rest is fitted into the room that is lent, which is for all that came in.
+// counts: read, kept, then those of port_raw_fit_slice; values and active as there.
+#[no_mangle]
+pub extern "C" fn port_raw_fit_quotes(
+    tau: f64,
+    sizes: &[usize; 4],
+    reals: &[f64; 7],
+    quotes: &[u8],
+    residuals: &mut [f64],
+    capped: &mut [usize],
+    counts: &mut [usize; 10],
+    values: &mut [f64; 14],
+    active: &mut [bool; 7],
+) -> u32
+    ensures { λ r. ⌜ QuotesInRows tau (now (sizes .entry)) (now (reals .entry)) (now (quotes .entry)) (now (residuals .entry)) (now (capped .entry)) r (now (residuals .exit)) (now (capped .exit)) (now (counts .exit)) (now (values .exit)) (now (active .exit)) ⌝ }
+{
+    let config = read_config(sizes, reals);
+    let o = outcome::of_quotes(tau, config, quotes, residuals, capped);
+    let ns = outcome_counts(o);
+    *counts = ns;
+    let a = o.fit;
     let vs = fit_values(a);
     *values = vs;
     let marks = a.active;

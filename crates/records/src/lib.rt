@@ -3,6 +3,8 @@ ghost use mathlib.Core.Path.{_≡_};
 ghost use Rattle.laws.specs.Floats.{positive};
 ghost use Rattle.records.specs.Settings.{defaultsOf, settingsHold, sizesHold};
 ghost use Rattle.records.specs.Observation.{passes as passesOf, observedOf};
+ghost use Rattle.records.specs.Answer.{noCounts, refusedWith};
+use slice::KRange;
 use slice::SviSlice;
 
 // Settings of the slice fit.
@@ -138,4 +140,55 @@ pub fn sizes_hold(n: usize, config: FitConfig) -> bool
         & (config.grid <= 255)
         & (config.refinements <= 1000)
         & (config.max_recentres <= 1000)
+}
+
+// ---- a refused fit
+
+// No pass was made.
+pub fn no_counts() -> Counts
+    ensures { λ r. ⌜ r ≡ noCounts ⌝ }
+{
+    Counts {
+        passes: 0,
+        recentres: 0,
+        shrinks: 0,
+        cells: 0,
+        faces: 0,
+    }
+}
+
+// The answer of a refused fit: zeros but for what is handed in.
+pub fn refusal(
+    number: u32,
+    observed: usize,
+    required: usize,
+    rmse: f64,
+    max: f64,
+    counts: Counts,
+) -> FitAnswer
+    ensures { λ r. ⌜ r ≡ refusedWith number observed required rmse max counts ⌝ }
+{
+    FitAnswer {
+        number,
+        observed,
+        required,
+        rmse_vol: rmse,
+        max_rmse_vol: max,
+        slice: SviSlice {
+            tau: 0.0,
+            a: 0.0,
+            b: 0.0,
+            rho: 0.0,
+            m: 0.0,
+            sigma: 0.0,
+            k_range: KRange { lo: 0.0, hi: 0.0 },
+        },
+        objective: 0.0,
+        objective_params: 0.0,
+        lee_margin: 0.0,
+        a_margin: 0.0,
+        active: [false; 7],
+        counts,
+        capped: 0,
+    }
 }

@@ -1,9 +1,6 @@
 -- No second answer meets the contract of a public function of crate `port`. Written by tools/settle from the contracts. Assumes nothing.
 use Prim.Native.Nat.{_≤_, ℕ}
-use Rattle.calibrate.specs.Fit.{Fitted}
 use Rattle.cell.specs.Cell.{innerOf}
-use Rattle.cell.specs.declared.Cell.{Cell}
-use Rattle.cell.specs.declared.Limits.{Limits}
 use Rattle.diagnostics.specs.Diagnostics.{reportClean}
 use Rattle.diagnostics.specs.Tally.{isClean, pointAt, recordedOf}
 use Rattle.diagnostics.specs.declared.tally.Check.{Check}
@@ -11,20 +8,17 @@ use Rattle.exponent.specs.Exp.{expOf}
 use Rattle.exponent.specs.Ln.{lnOf}
 use Rattle.laws.proofs.Choices.{settled}
 use Rattle.point.specs.Point.{pointNumber, totalOf}
-use Rattle.port.specs.Answers.{bracketFor, checkAt, coversFor, diagnosedCounts, diagnosedFor, diagnosedWorst, levelAnswer, placesRow, rangeAnswer, regionFor, reportAt, roomFor, sliceAnswer, totalAnswer, totalFor, totalRow, valuesAnswer}
+use Rattle.port.specs.Abi.{abiNumber}
+use Rattle.port.specs.Answers.{bracketFor, checkAt, coversFor, diagnosedCounts, diagnosedFor, diagnosedWorst, placesRow, regionFor, reportAt, roomFor, totalAnswer, totalFor, totalRow}
+use Rattle.port.specs.FitRows.{FittedRows, QuotesInRows}
 use Rattle.port.specs.Flag.{flag}
-use Rattle.port.specs.declared.answers.LevelAnswer.{LevelAnswer}
-use Rattle.port.specs.declared.answers.RangeAnswer.{RangeAnswer}
-use Rattle.port.specs.declared.answers.SliceAnswer.{SliceAnswer}
-use Rattle.port.specs.declared.answers.ValuesAnswer.{ValuesAnswer}
+use Rattle.port.specs.Rows.{cellValues, rangeRow, readLimits, readRange, readSlice, realsRow, sizesRow, sliceRow, valuesRow}
+use Rattle.port.specs.Slices.{levelAnswer, rangeAnswer, sliceAnswer, valuesAnswer}
 use Rattle.records.specs.Settings.{defaultsOf}
-use Rattle.records.specs.declared.FitAnswer.{FitAnswer}
-use Rattle.records.specs.declared.FitConfig.{FitConfig}
 use Rattle.roots.specs.Hypot.{hypotOf}
 use Rattle.roots.specs.Root.{rootOf}
 use Rattle.run.specs.Answer.{answerOf}
 use Rattle.slice.specs.Slice.{evalOf, holdsK, leeSlopeOf, madeOf, minimumOf, rangedOf}
-use Rattle.slice.specs.declared.KRange.{KRange}
 use Rattle.slice.specs.declared.SviSlice.{SviSlice}
 use Rattle.solver.specs.Solve.{solveOf}
 use Rattle.surface.specs.Runs.{checkRun, runOf}
@@ -35,13 +29,21 @@ use mathlib.Core.Bool.{Bool}
 use mathlib.Core.List.{List, [], _∷_}
 use mathlib.Core.Path.{_≡_}
 
--- port::port_default_config
-pub port-default-config : {r₁ r₂ : FitConfig} → (r₁ ≡ defaultsOf) → (r₂ ≡ defaultsOf) → r₁ ≡ r₂
-port-default-config h₁ h₂ = settled h₁ h₂
+-- port::port_abi
+pub port-abi : {r₁ r₂ : ℕ} → (r₁ ≡ abiNumber) → (r₂ ≡ abiNumber) → r₁ ≡ r₂
+port-abi h₁ h₂ = settled h₁ h₂
 
--- port::port_fit_slice
-pub port-fit-slice : (tau : Float) (config : FitConfig) (k : List Float) (w : List Float) (weight : List Float) (residuals : List Float) (capped : List ℕ) {r₁ r₂ : FitAnswer} {residuals-exit₁ residuals-exit₂ : List Float} {capped-exit₁ capped-exit₂ : List ℕ} → (Fitted tau config k w weight residuals capped r₁ residuals-exit₁ capped-exit₁) → (Fitted tau config k w weight residuals capped r₂ residuals-exit₂ capped-exit₂) → (r₁ ≡ r₂) × (residuals-exit₁ ≡ residuals-exit₂) × (capped-exit₁ ≡ capped-exit₂)
-port-fit-slice tau config k w weight residuals capped {r₁} {r₂} {residuals-exit₁} {residuals-exit₂} {capped-exit₁} {capped-exit₂} h₁ h₂ = (cc, cc, cc)
+-- port::port_raw_default_config
+pub port-raw-default-config : (sizes : List ℕ) (reals : List Float) {sizes-exit₁ sizes-exit₂ : List ℕ} {reals-exit₁ reals-exit₂ : List Float} → ((sizes-exit₁ ≡ sizesRow defaultsOf) × (reals-exit₁ ≡ realsRow defaultsOf)) → ((sizes-exit₂ ≡ sizesRow defaultsOf) × (reals-exit₂ ≡ realsRow defaultsOf)) → (sizes-exit₁ ≡ sizes-exit₂) × (reals-exit₁ ≡ reals-exit₂)
+port-raw-default-config sizes reals {sizes-exit₁} {sizes-exit₂} {reals-exit₁} {reals-exit₂} h₁ h₂ = (cc, cc)
+
+-- port::port_raw_fit_slice
+pub port-raw-fit-slice : (tau : Float) (sizes : List ℕ) (reals : List Float) (k : List Float) (w : List Float) (weight : List Float) (residuals : List Float) (capped : List ℕ) (counts : List ℕ) (values : List Float) (active : List Bool) {r₁ r₂ : ℕ} {residuals-exit₁ residuals-exit₂ : List Float} {capped-exit₁ capped-exit₂ : List ℕ} {counts-exit₁ counts-exit₂ : List ℕ} {values-exit₁ values-exit₂ : List Float} {active-exit₁ active-exit₂ : List Bool} → (FittedRows tau sizes reals k w weight residuals capped r₁ residuals-exit₁ capped-exit₁ counts-exit₁ values-exit₁ active-exit₁) → (FittedRows tau sizes reals k w weight residuals capped r₂ residuals-exit₂ capped-exit₂ counts-exit₂ values-exit₂ active-exit₂) → (r₁ ≡ r₂) × (residuals-exit₁ ≡ residuals-exit₂) × (capped-exit₁ ≡ capped-exit₂) × (counts-exit₁ ≡ counts-exit₂) × (values-exit₁ ≡ values-exit₂) × (active-exit₁ ≡ active-exit₂)
+port-raw-fit-slice tau sizes reals k w weight residuals capped counts values active {r₁} {r₂} {residuals-exit₁} {residuals-exit₂} {capped-exit₁} {capped-exit₂} {counts-exit₁} {counts-exit₂} {values-exit₁} {values-exit₂} {active-exit₁} {active-exit₂} h₁ h₂ = (cc, cc, cc, cc, cc, cc)
+
+-- port::port_raw_fit_quotes
+pub port-raw-fit-quotes : (tau : Float) (sizes : List ℕ) (reals : List Float) (quotes : List ℕ) (residuals : List Float) (capped : List ℕ) (counts : List ℕ) (values : List Float) (active : List Bool) {r₁ r₂ : ℕ} {residuals-exit₁ residuals-exit₂ : List Float} {capped-exit₁ capped-exit₂ : List ℕ} {counts-exit₁ counts-exit₂ : List ℕ} {values-exit₁ values-exit₂ : List Float} {active-exit₁ active-exit₂ : List Bool} → (QuotesInRows tau sizes reals quotes residuals capped r₁ residuals-exit₁ capped-exit₁ counts-exit₁ values-exit₁ active-exit₁) → (QuotesInRows tau sizes reals quotes residuals capped r₂ residuals-exit₂ capped-exit₂ counts-exit₂ values-exit₂ active-exit₂) → (r₁ ≡ r₂) × (residuals-exit₁ ≡ residuals-exit₂) × (capped-exit₁ ≡ capped-exit₂) × (counts-exit₁ ≡ counts-exit₂) × (values-exit₁ ≡ values-exit₂) × (active-exit₁ ≡ active-exit₂)
+port-raw-fit-quotes tau sizes reals quotes residuals capped counts values active {r₁} {r₂} {residuals-exit₁} {residuals-exit₂} {capped-exit₁} {capped-exit₂} {counts-exit₁} {counts-exit₂} {values-exit₁} {values-exit₂} {active-exit₁} {active-exit₂} h₁ h₂ = (cc, cc, cc, cc, cc, cc)
 
 -- port::port_sqrt
 pub port-sqrt : (x : Float) {r₁ r₂ : Float} → (r₁ ≡ rootOf x) → (r₂ ≡ rootOf x) → r₁ ≡ r₂
@@ -63,37 +65,37 @@ port-exp x h₁ h₂ = settled h₁ h₂
 pub port-run : (file : List ℕ) (out : List ℕ) {r₁ r₂ : ℕ} {out-exit₁ out-exit₂ : List ℕ} → ((r₁ ≡ length (answerOf file)) × (out-exit₁ ≡ placed (answerOf file) out) × (r₁ ≤ 32768)) → ((r₂ ≡ length (answerOf file)) × (out-exit₂ ≡ placed (answerOf file) out) × (r₂ ≤ 32768)) → (r₁ ≡ r₂) × (out-exit₁ ≡ out-exit₂)
 port-run file out {r₁} {r₂} {out-exit₁} {out-exit₂} h₁ h₂ = (cc, cc)
 
--- port::port_solve
-pub port-solve : (m : List Float) (rhs : List Float) (n : ℕ) (tol : Float) (x : List Float) {r₁ r₂ : Bool} {x-exit₁ x-exit₂ : List Float} → ((r₁ ≡ solveOf n m rhs tol .ok) × (x-exit₁ ≡ solveOf n m rhs tol .x)) → ((r₂ ≡ solveOf n m rhs tol .ok) × (x-exit₂ ≡ solveOf n m rhs tol .x)) → (r₁ ≡ r₂) × (x-exit₁ ≡ x-exit₂)
-port-solve m rhs n tol x {r₁} {r₂} {x-exit₁} {x-exit₂} h₁ h₂ = (cc, cc)
+-- port::port_raw_k_range
+pub port-raw-k-range : (lo : Float) (hi : Float) (range : List Float) {r₁ r₂ : ℕ} {range-exit₁ range-exit₂ : List Float} → ((r₁ ≡ rangeAnswer (rangedOf lo hi) .number) × (range-exit₁ ≡ rangeRow (rangeAnswer (rangedOf lo hi) .range))) → ((r₂ ≡ rangeAnswer (rangedOf lo hi) .number) × (range-exit₂ ≡ rangeRow (rangeAnswer (rangedOf lo hi) .range))) → (r₁ ≡ r₂) × (range-exit₁ ≡ range-exit₂)
+port-raw-k-range lo hi range {r₁} {r₂} {range-exit₁} {range-exit₂} h₁ h₂ = (cc, cc)
 
--- port::port_cell
-pub port-cell : (k : List Float) (w : List Float) (t : List Float) (l : Limits) (m : Float) (sigma : Float) {r₁ r₂ : Cell} → (r₁ ≡ innerOf k w t l m sigma) → (r₂ ≡ innerOf k w t l m sigma) → r₁ ≡ r₂
-port-cell k w t l m sigma h₁ h₂ = settled h₁ h₂
+-- port::port_raw_contains
+pub port-raw-contains : (range : List Float) (k : Float) {r₁ r₂ : ℕ} → (r₁ ≡ flag (holdsK (readRange range) k)) → (r₂ ≡ flag (holdsK (readRange range) k)) → r₁ ≡ r₂
+port-raw-contains range k h₁ h₂ = settled h₁ h₂
 
--- port::port_k_range
-pub port-k-range : (lo : Float) (hi : Float) {r₁ r₂ : RangeAnswer} → (r₁ ≡ rangeAnswer (rangedOf lo hi)) → (r₂ ≡ rangeAnswer (rangedOf lo hi)) → r₁ ≡ r₂
-port-k-range lo hi h₁ h₂ = settled h₁ h₂
+-- port::port_raw_slice
+pub port-raw-slice : (tau : Float) (a : Float) (b : Float) (rho : Float) (m : Float) (sigma : Float) (range : List Float) (slice : List Float) {r₁ r₂ : ℕ} {slice-exit₁ slice-exit₂ : List Float} → ((r₁ ≡ sliceAnswer (madeOf tau a b rho m sigma (readRange range)) .number) × (slice-exit₁ ≡ sliceRow (sliceAnswer (madeOf tau a b rho m sigma (readRange range)) .slice))) → ((r₂ ≡ sliceAnswer (madeOf tau a b rho m sigma (readRange range)) .number) × (slice-exit₂ ≡ sliceRow (sliceAnswer (madeOf tau a b rho m sigma (readRange range)) .slice))) → (r₁ ≡ r₂) × (slice-exit₁ ≡ slice-exit₂)
+port-raw-slice tau a b rho m sigma range slice {r₁} {r₂} {slice-exit₁} {slice-exit₂} h₁ h₂ = (cc, cc)
 
--- port::port_contains
-pub port-contains : (range : KRange) (k : Float) {r₁ r₂ : Bool} → (r₁ ≡ holdsK range k) → (r₂ ≡ holdsK range k) → r₁ ≡ r₂
-port-contains range k h₁ h₂ = settled h₁ h₂
+-- port::port_raw_minimum
+pub port-raw-minimum : (slice : List Float) (value : List Float) {r₁ r₂ : ℕ} {value-exit₁ value-exit₂ : List Float} → ((r₁ ≡ levelAnswer (minimumOf (readSlice slice)) .number) × (value-exit₁ ≡ levelAnswer (minimumOf (readSlice slice)) .value ∷ [])) → ((r₂ ≡ levelAnswer (minimumOf (readSlice slice)) .number) × (value-exit₂ ≡ levelAnswer (minimumOf (readSlice slice)) .value ∷ [])) → (r₁ ≡ r₂) × (value-exit₁ ≡ value-exit₂)
+port-raw-minimum slice value {r₁} {r₂} {value-exit₁} {value-exit₂} h₁ h₂ = (cc, cc)
 
--- port::port_slice
-pub port-slice : (tau : Float) (a : Float) (b : Float) (rho : Float) (m : Float) (sigma : Float) (range : KRange) {r₁ r₂ : SliceAnswer} → (r₁ ≡ sliceAnswer (madeOf tau a b rho m sigma range)) → (r₂ ≡ sliceAnswer (madeOf tau a b rho m sigma range)) → r₁ ≡ r₂
-port-slice tau a b rho m sigma range h₁ h₂ = settled h₁ h₂
+-- port::port_raw_lee_slope
+pub port-raw-lee-slope : (slice : List Float) (value : List Float) {r₁ r₂ : ℕ} {value-exit₁ value-exit₂ : List Float} → ((r₁ ≡ levelAnswer (leeSlopeOf (readSlice slice)) .number) × (value-exit₁ ≡ levelAnswer (leeSlopeOf (readSlice slice)) .value ∷ [])) → ((r₂ ≡ levelAnswer (leeSlopeOf (readSlice slice)) .number) × (value-exit₂ ≡ levelAnswer (leeSlopeOf (readSlice slice)) .value ∷ [])) → (r₁ ≡ r₂) × (value-exit₁ ≡ value-exit₂)
+port-raw-lee-slope slice value {r₁} {r₂} {value-exit₁} {value-exit₂} h₁ h₂ = (cc, cc)
 
--- port::port_minimum
-pub port-minimum : (slice : SviSlice) {r₁ r₂ : LevelAnswer} → (r₁ ≡ levelAnswer (minimumOf slice)) → (r₂ ≡ levelAnswer (minimumOf slice)) → r₁ ≡ r₂
-port-minimum slice h₁ h₂ = settled h₁ h₂
+-- port::port_raw_eval
+pub port-raw-eval : (slice : List Float) (k : Float) (values : List Float) {r₁ r₂ : ℕ} {values-exit₁ values-exit₂ : List Float} → ((r₁ ≡ valuesAnswer (evalOf (readSlice slice) k) .number) × (values-exit₁ ≡ valuesRow (valuesAnswer (evalOf (readSlice slice) k)))) → ((r₂ ≡ valuesAnswer (evalOf (readSlice slice) k) .number) × (values-exit₂ ≡ valuesRow (valuesAnswer (evalOf (readSlice slice) k)))) → (r₁ ≡ r₂) × (values-exit₁ ≡ values-exit₂)
+port-raw-eval slice k values {r₁} {r₂} {values-exit₁} {values-exit₂} h₁ h₂ = (cc, cc)
 
--- port::port_lee_slope
-pub port-lee-slope : (slice : SviSlice) {r₁ r₂ : LevelAnswer} → (r₁ ≡ levelAnswer (leeSlopeOf slice)) → (r₂ ≡ levelAnswer (leeSlopeOf slice)) → r₁ ≡ r₂
-port-lee-slope slice h₁ h₂ = settled h₁ h₂
+-- port::port_raw_solve
+pub port-raw-solve : (m : List Float) (rhs : List Float) (n : ℕ) (tol : Float) (x : List Float) {r₁ r₂ : ℕ} {x-exit₁ x-exit₂ : List Float} → ((r₁ ≡ flag (solveOf n m rhs tol .ok)) × (x-exit₁ ≡ solveOf n m rhs tol .x)) → ((r₂ ≡ flag (solveOf n m rhs tol .ok)) × (x-exit₂ ≡ solveOf n m rhs tol .x)) → (r₁ ≡ r₂) × (x-exit₁ ≡ x-exit₂)
+port-raw-solve m rhs n tol x {r₁} {r₂} {x-exit₁} {x-exit₂} h₁ h₂ = (cc, cc)
 
--- port::port_eval
-pub port-eval : (slice : SviSlice) (k : Float) {r₁ r₂ : ValuesAnswer} → (r₁ ≡ valuesAnswer (evalOf slice k)) → (r₂ ≡ valuesAnswer (evalOf slice k)) → r₁ ≡ r₂
-port-eval slice k h₁ h₂ = settled h₁ h₂
+-- port::port_raw_cell
+pub port-raw-cell : (k : List Float) (w : List Float) (scaled : List Float) (limits : List Float) (m : Float) (sigma : Float) (faces : List ℕ) (values : List Float) (active : List Bool) {r₁ r₂ : ℕ} {faces-exit₁ faces-exit₂ : List ℕ} {values-exit₁ values-exit₂ : List Float} {active-exit₁ active-exit₂ : List Bool} → ((r₁ ≡ flag (innerOf k w scaled (readLimits limits) m sigma .some)) × (faces-exit₁ ≡ innerOf k w scaled (readLimits limits) m sigma .faces ∷ []) × (values-exit₁ ≡ cellValues (innerOf k w scaled (readLimits limits) m sigma)) × (active-exit₁ ≡ innerOf k w scaled (readLimits limits) m sigma .active)) → ((r₂ ≡ flag (innerOf k w scaled (readLimits limits) m sigma .some)) × (faces-exit₂ ≡ innerOf k w scaled (readLimits limits) m sigma .faces ∷ []) × (values-exit₂ ≡ cellValues (innerOf k w scaled (readLimits limits) m sigma)) × (active-exit₂ ≡ innerOf k w scaled (readLimits limits) m sigma .active)) → (r₁ ≡ r₂) × (faces-exit₁ ≡ faces-exit₂) × (values-exit₁ ≡ values-exit₂) × (active-exit₁ ≡ active-exit₂)
+port-raw-cell k w scaled limits m sigma faces values active {r₁} {r₂} {faces-exit₁} {faces-exit₂} {values-exit₁} {values-exit₂} {active-exit₁} {active-exit₂} h₁ h₂ = (cc, cc, cc, cc)
 
 -- port::port_check_point
 pub port-check-point : (k : Float) (tau : Float) {r₁ r₂ : ℕ} → (r₁ ≡ pointNumber k tau) → (r₂ ≡ pointNumber k tau) → r₁ ≡ r₂

@@ -2,8 +2,11 @@
 use Prim.Native.Nat.{ℕ}
 use Rattle.laws.proofs.Choices.{settled}
 use Rattle.laws.specs.Floats.{positive}
+use Rattle.records.specs.Answer.{noCounts, refusedWith}
 use Rattle.records.specs.Observation.{observedOf, passes as passesOf}
 use Rattle.records.specs.Settings.{defaultsOf, settingsHold, sizesHold}
+use Rattle.records.specs.declared.Counts.{Counts}
+use Rattle.records.specs.declared.FitAnswer.{FitAnswer}
 use Rattle.records.specs.declared.FitConfig.{FitConfig}
 use Rattle.records.specs.declared.Observed.{Observed}
 use lib.Ieee.{Float}
@@ -33,3 +36,11 @@ FitConfig·validate self h₁ h₂ = settled h₁ h₂
 -- records::sizes_hold
 pub sizes-hold : (n : ℕ) (config : FitConfig) {r₁ r₂ : Bool} → (r₁ ≡ sizesHold n config) → (r₂ ≡ sizesHold n config) → r₁ ≡ r₂
 sizes-hold n config h₁ h₂ = settled h₁ h₂
+
+-- records::no_counts
+pub no-counts : {r₁ r₂ : Counts} → (r₁ ≡ noCounts) → (r₂ ≡ noCounts) → r₁ ≡ r₂
+no-counts h₁ h₂ = settled h₁ h₂
+
+-- records::refusal
+pub refusal : (number : ℕ) (observed : ℕ) (required : ℕ) (rmse : Float) (max : Float) (counts : Counts) {r₁ r₂ : FitAnswer} → (r₁ ≡ refusedWith number observed required rmse max counts) → (r₂ ≡ refusedWith number observed required rmse max counts) → r₁ ≡ r₂
+refusal number observed required rmse max counts h₁ h₂ = settled h₁ h₂

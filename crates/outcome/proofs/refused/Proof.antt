@@ -1,12 +1,15 @@
 -- `outcome::refused` meets its contract. Assumes nothing.
-use mathlib.Core.Path.{refl}
-use Rattle.records.specs.Answer.{refusedWith}
+use borrow.Author.Needs.{needs}
 use Rattle.outcome.proofs.refused.Statement.{statement}
 use Rattle.outcome.proofs.refused.Tie as tie
 
 returns : tie.Need-returns
-unfolding refusedWith
-returns c = refl
+returns c = cc
 
 pub refused-spec : {M : Type 1} → statement M
-refused-spec = tie.close (tie.spec returns)
+refused-spec =
+    tie.close
+    (tie.spec
+    (λ c κs. search needs)
+    (λ c κs. search needs)
+    returns)
