@@ -1,12 +1,5 @@
 pub mod Deciding
 pub mod Quads
 pub mod Listing
-pub mod RefusalKeepsBuffers
-pub mod Conditions
-pub mod ExactlyWhen
-pub mod RefusalCarries
-pub mod RangeNeverBad
 pub mod Contract
 pub mod EachNumber
-pub mod SearchedAsDefined
-pub mod FitCounts

@@ -21,13 +21,13 @@ use Rattle.search.specs.declared.Plan.{Plan}
 use Rattle.search.specs.Search.{CellFn, afterPasses, limitOf}
 use Rattle.search.specs.Run.{fitCell}
 use Rattle.search.proofs.Passes.{pass-stands}
-use Rattle.search.proofs.Least.{refusal, yields}
+use Rattle.theorems.proofs.Least.{refusal, yields}
 use Rattle.records.specs.declared.FitConfig.{FitConfig}
 use Rattle.judge.specs.declared.Sums.{Sums}
 use Rattle.records.specs.Settings.{settingsHold}
 use Rattle.judge.specs.Judge.{readingOf, residualAt, addedTo, sumsOf, paramsHold, rmseHolds}
 use Rattle.calibrate.specs.Fit.{planOf, limitsFor, planFor, fitSearch}
 use Rattle.calibrate.specs.When.{FacelessPass}
 use Rattle.judge.specs.When.{OutOfDomain, RmseAboveMax, rmseAt}
 use Rattle.entry.proofs.Conditions.{below, not-both, max-finite}
 use Rattle.judge.specs.When as judge

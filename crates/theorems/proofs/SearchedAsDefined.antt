@@ -16,7 +16,7 @@ use Rattle.search.specs.declared.Search.{Search}
 use Rattle.search.specs.Promised.{Promised}
 use Rattle.search.specs.Run.{fitCell, fitFace}
 use Rattle.search.proofs.FitCells.{fit-chosen}
-use Rattle.search.proofs.NoBetterFace.{no-better-face}
+use Rattle.theorems.proofs.NoBetterFace.{no-better-face}
 use Rattle.weights.specs.Weights.{scaledOf, cappedOf}
 use Rattle.weights.proofs.Places.{scaled-length}
 use Rattle.records.specs.declared.FitConfig.{FitConfig}

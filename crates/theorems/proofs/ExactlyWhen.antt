@@ -22,15 +22,15 @@ use Rattle.records.specs.declared.FitConfig.{FitConfig}
 use Rattle.records.specs.Settings.{settingsHold, sizesHold}
 use Rattle.entry.specs.Entry.{lengthsHold, columnsPass, spanOf, checksNumber, entryNumber}
 use Rattle.judge.specs.Judge.{sumsOf, paramsHold, rmseHolds}
 use Rattle.calibrate.specs.Fit.{aMaxFor, scaledFor, searchFor, fitOf}
 use Rattle.calibrate.proofs.EachNumber.{lateNumber, answer-number}
 use Rattle.calibrate.specs.When as when
 use Rattle.entry.specs.When.{UnequalOrShort, OverSize, BadObservation, BadSettings, EntryFails}
 use Rattle.calibrate.specs.When.{FacelessPass, OnEdge, turn}
 use Rattle.judge.specs.When.{OutOfDomain, RmseAboveMax, rmseAt}
 use Rattle.entry.specs.When as entry
 use Rattle.entry.proofs.Conditions as test
-use Rattle.calibrate.proofs.Conditions as late
+use Rattle.theorems.proofs.Conditions as late
 
 -- ---- the order
 

@@ -10,14 +10,14 @@ use Rattle.laws.proofs.Floats.{finite-no-nan}
 use Rattle.laws.proofs.Order.{lt-or, lt-le-trans}
 use Rattle.cell.specs.declared.Cell.{Cell}
 use Rattle.cell.specs.Choice.{Beats}
 use Rattle.search.specs.declared.Plan.{Plan}
 use Rattle.search.specs.declared.Search.{Search}
 use Rattle.search.specs.Search.{CellFn, axisPoint, passOf, afterPasses, limitOf, searchOf}
 use Rattle.search.specs.Promised.{FaceFn, ChosenFrom, cellOfPass, faceOfPass, Qualifies, Yields, ChosenFace, Promised}
 use Rattle.search.proofs.Passes.{AsGood, Proper, pass-stands}
 use Rattle.search.proofs.Trail.{trail, some-pass}
-use Rattle.search.proofs.Least.{going-on, Refusal, refusal, yields, met}
-use Rattle.search.proofs.Chosen.{Chosen, chosen}
+use Rattle.theorems.proofs.Least.{going-on, Refusal, refusal, yields, met}
+use Rattle.theorems.proofs.Chosen.{Chosen, chosen}
 
 -- no face is better than b where none is better than c, and c is not better than b
 as-good-trans : (b c : Cell) (v : Float) → Proper b → Proper c → AsGood b c → T (c .some) → (T (lt v (c .objective)) → ⊥) → T (lt v (b .objective)) → ⊥

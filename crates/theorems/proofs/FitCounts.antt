@@ -17,11 +17,11 @@ use Rattle.records.specs.declared.FitAnswer.{FitAnswer}
 use Rattle.records.specs.Settings.{defaultsOf}
 use Rattle.entry.specs.Entry.{entryNumber}
 use Rattle.records.specs.Answer.{noCounts, refusedWith}
 use Rattle.calibrate.specs.Fit.{planOf, scaledFor, limitsFor, planFor, searchFor, fitSearch, fitOf}
 use Rattle.calibrate.specs.Searched.{SizedCounts, DefaultCounts}
 use Rattle.entry.proofs.Known.{passed, entered}
 use Rattle.calibrate.proofs.EachNumber.{early-answer}
-use Rattle.calibrate.proofs.SearchedAsDefined.{searched-as-defined}
+use Rattle.theorems.proofs.SearchedAsDefined.{searched-as-defined}
 
 module _ (tau : Float) (c : FitConfig) (ks ws ts : List Float) (room slots : ℕ) where
   -- an entry check that fails: no counts

@@ -19,11 +19,11 @@ use Rattle.laws.proofs.Order.{lt-or}
 use Rattle.laws.proofs.Rooms.{filled-at}
 use Rattle.slice.specs.declared.SviSlice.{SviSlice}
 use Rattle.slice.specs.Slice.{threeFinite, rangeNumber, domainNumber, numberOf}
 use Rattle.surface.specs.declared.types.Run.{Run}
 use Rattle.surface.specs.Runs.{sliceAt, tausOf, badTurn, firstBad, riseTurn, risesOf, checkRun}
 use Rattle.surface.specs.Lookup.{toleranceOf, tolerancesOf}
 use Rattle.surface.specs.Surface.{tolsOf}
-use Rattle.surface.proofs.Spans.{positive-of}
+use Rattle.theorems.proofs.Spans.{positive-of}
 
 -- a test that was not taken
 pub passes : (b : Bool) (n rest : ℕ) → (n ≡ 0 → ⊥) → cond b n rest ≡ 0 → (b ≡ false) × (rest ≡ 0)

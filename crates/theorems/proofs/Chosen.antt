@@ -4,16 +4,16 @@ use mathlib.Core.Bool.{Bool, true, false, _||_, cond}
 use Prim.Native.Nat.{ℕ, _+_, _-_, _≤_, _<_}
 use native.Mathlib.Omega.{arith}
 use lib.Dec.{T}
 use Rattle.search.specs.declared.PassBest.{PassBest}
 use Rattle.records.specs.declared.Counts.{Counts}
 use Rattle.search.specs.declared.Found.{Found}
 use Rattle.search.specs.declared.Place.{Place}
 use Rattle.search.specs.declared.Plan.{Plan}
 use Rattle.search.specs.declared.Search.{Search}
 use Rattle.search.specs.Search.{CellFn, axisPoint, anyEdge, passOf, improves, foundOf, placeOf, movedOf, countedOf, searchRefused, stepOf, startOf, afterPasses}
 use Rattle.search.proofs.Passes.{Stands, pass-stands}
 use Rattle.search.proofs.Trail.{after-ind, trail, passes-after}
-use Rattle.search.proofs.Least.{moved-found}
+use Rattle.theorems.proofs.Least.{moved-found}
 
 -- o is the cell (i, j) of the grid of a pass, one of the first k, with its m, its ln sigma and its edge mark
 pub record Chosen (f : CellFn) (p : Plan) (o : Found) (k : ℕ) : Type 0 where

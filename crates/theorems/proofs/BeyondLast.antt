@@ -26,18 +26,18 @@ use Rattle.slice.specs.Slice.{threeFinite, valuesOf, judgedOf, evalRaw}
 use Rattle.point.specs.declared.Total.the-variants as total
 use Rattle.point.specs.declared.TotalVariance.{TotalVariance}
 use Rattle.point.specs.Point.{pointNumber, totalNumber, totalOf}
 use Rattle.surface.specs.declared.types.Run.{Run}
 use Rattle.surface.specs.declared.types.ShortExpiryPolicy.{ShortExpiryPolicy}
 use Rattle.surface.specs.declared.types.ShortExpiryPolicy.the-variants.{Reject, ConstantVol}
 use Rattle.surface.specs.declared.types.Bracket.{Bracket}
 use Rattle.surface.specs.declared.types.Bracket.the-variants.{Segment, Short, Refused}
 use Rattle.surface.specs.declared.types.Region.the-variants as region
 use Rattle.surface.specs.Runs.{sliceAt, tausOf, checkRun}
 use Rattle.surface.specs.Lookup.{nodeTolerance, beforeOf, afterOf, toleranceOf, nearOf, nearAt, nodeOf, beyondAt, beyondOf, onNode, shortOf, insideOf, lookupOf, bracketOf}
 use Rattle.surface.specs.Surface.{bothHold, regionBy, regionIn, mixedOf, shortScaled, blendOf, shortIn, segmentOf, shortFrom, varianceIn, varianceAt, tolsOf, bracketIn, bracketRun, regionRun, totalRun}
 use Rattle.surface.specs.Last.{lastTolerance, BeyondLast, TausFit}
-use Rattle.surface.proofs.Spans.{from-true, to-false, positive-no-nan, not-below, positive-of, gap-units, quarter-signed, out-of-reach, within-any}
-use Rattle.surface.proofs.ValidRun.{tau-positive, Valid, valid-run}
+use Rattle.theorems.proofs.Spans.{from-true, to-false, positive-no-nan, not-below, positive-of, gap-units, quarter-signed, out-of-reach, within-any}
+use Rattle.theorems.proofs.ValidRun.{tau-positive, Valid, valid-run}
 
 -- ---- searches
 

@@ -1,0 +1,17 @@
+-- A surface beyond its last node: 37.
+pub mod Spans
+pub mod ValidRun
+pub mod BeyondLast
+-- The search: no better face, and windows within the domain.
+pub mod Least
+pub mod Chosen
+pub mod NoBetterFace
+pub mod WindowsInside
+-- The fit: its numbers, what a refusal carries and keeps, its search and counts.
+pub mod Conditions
+pub mod ExactlyWhen
+pub mod RefusalCarries
+pub mod RefusalKeepsBuffers
+pub mod RangeNeverBad
+pub mod SearchedAsDefined
+pub mod FitCounts
