@@ -724,12 +724,12 @@ def answer(name, form, *words):
 
 
 TABLE = [
-    Walk("surface", "check_surface", ("surface", "run.check_run"), [], Definition("surface", "Runs", "checkRun"), U32),
-    Walk("surface", "bracket", ("surface", "answers.bracket_run"), POINT, Definition("surface", "Surface", "bracketRun"), enum("surface", "types.Bracket", "B")),
-    Walk("surface", "region", ("surface", "answers.region_run"), POINT, Definition("surface", "Surface", "regionRun"), enum("surface", "types.Region", "B")),
-    Walk("surface", "total_variance", ("surface", "answers.total_variance_run"), POINT, Definition("surface", "Surface", "totalRun"), enum("point", "Total", "B")),
-    Walk("surface", "covers_nodes", ("surface", "answers.covers_run"), NODES, Definition("surface", "Surface", "coversRun"), enum("surface", "types.Covered", "B")),
-    Walk("diagnostics", "diagnose", ("diagnostics", "report.diagnose_run"), [of_type("policy", POLICY), *NODES, of_type("config", CONFIG), lent_to_write("room")],
+    Walk("lent", "check_surface", ("surface", "run.check_run"), [], Definition("surface", "Runs", "checkRun"), U32),
+    Walk("lent", "bracket", ("surface", "answers.bracket_run"), POINT, Definition("surface", "Surface", "bracketRun"), enum("surface", "types.Bracket", "B")),
+    Walk("lent", "region", ("surface", "answers.region_run"), POINT, Definition("surface", "Surface", "regionRun"), enum("surface", "types.Region", "B")),
+    Walk("lent", "total_variance", ("surface", "answers.total_variance_run"), POINT, Definition("surface", "Surface", "totalRun"), enum("point", "Total", "B")),
+    Walk("lent", "covers_nodes", ("surface", "answers.covers_run"), NODES, Definition("surface", "Surface", "coversRun"), enum("surface", "types.Covered", "B")),
+    Walk("lent", "diagnose", ("diagnostics", "report.diagnose_run"), [of_type("policy", POLICY), *NODES, of_type("config", CONFIG), lent_to_write("room")],
          Definition("diagnostics", "Diagnostics", "diagnoseOf", "{} .answer"), enum("diagnostics", "report.Diagnosed", "B"), Definition("diagnostics", "Diagnostics", "diagnoseOf", "{} .room")),
     Walk("port", "surfaces.port_surface", ("surface", "run.check_run"), [], Definition("surface", "Runs", "checkRun"), U32),
     Walk("port", "surfaces.port_raw_bracket", ("port", "answers.bracket_of"), [*PORT_POINT, array_to_write("places", USIZE, 3), array_to_write("x", F64, 1)],

@@ -5,6 +5,7 @@ pub mod SettledSlice
 pub mod SettledPoint
 pub mod SettledSurface
 pub mod SettledDiagnostics
+pub mod SettledLent
 pub mod SettledRecords
 pub mod SettledSolver
 pub mod SettledPolytope

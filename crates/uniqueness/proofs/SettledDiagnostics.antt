@@ -11,17 +11,12 @@ use Rattle.diagnostics.specs.declared.tally.Check.{Check}
 use Rattle.diagnostics.specs.declared.tally.DiagnosticPoint.{DiagnosticPoint}
 use Rattle.laws.proofs.Choices.{settled}
 use Rattle.slice.specs.declared.SviSlice.{SviSlice}
-use Rattle.surface.specs.Runs.{runOf}
 use Rattle.surface.specs.declared.types.Run.{Run}
 use Rattle.surface.specs.declared.types.ShortExpiryPolicy.{ShortExpiryPolicy}
 use lib.Ieee.{Float}
 use mathlib.Core.Bool.{Bool}
 use mathlib.Core.List.{List}
 use mathlib.Core.Path.{_≡_}
-
--- diagnostics::diagnose
-pub diagnose : (slices : List SviSlice) (policy : ShortExpiryPolicy) (ks : List Float) (taus : List Float) (config : DiagnosticsConfig) (room : List Float) {r₁ r₂ : Diagnosed} {room-exit₁ room-exit₂ : List Float} → ((r₁ ≡ diagnoseOf (runOf slices) policy ks taus config room .answer) × (room-exit₁ ≡ diagnoseOf (runOf slices) policy ks taus config room .room)) → ((r₂ ≡ diagnoseOf (runOf slices) policy ks taus config room .answer) × (room-exit₂ ≡ diagnoseOf (runOf slices) policy ks taus config room .room)) → (r₁ ≡ r₂) × (room-exit₁ ≡ room-exit₂)
-diagnose slices policy ks taus config room {r₁} {r₂} {room-exit₁} {room-exit₂} h₁ h₂ = (cc, cc)
 
 -- diagnostics::butterfly_g
 pub butterfly-g : (k : Float) (w : Float) («w_k» : Float) («w_kk» : Float) {r₁ r₂ : Float} → (r₁ ≡ butterflyOf k w «w_k» «w_kk») → (r₂ ≡ butterflyOf k w «w_k» «w_kk») → r₁ ≡ r₂

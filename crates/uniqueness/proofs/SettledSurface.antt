@@ -57,26 +57,6 @@ holds v x h₁ h₂ = settled h₁ h₂
 pub copied : (s : List SviSlice) {r₁ r₂ : Run} → (r₁ ≡ runOf s) → (r₂ ≡ runOf s) → r₁ ≡ r₂
 copied s h₁ h₂ = settled h₁ h₂
 
--- surface::check_surface
-pub check-surface : (slices : List SviSlice) {r₁ r₂ : ℕ} → (r₁ ≡ checkRun (runOf slices)) → (r₂ ≡ checkRun (runOf slices)) → r₁ ≡ r₂
-check-surface slices h₁ h₂ = settled h₁ h₂
-
--- surface::bracket
-pub bracket : (slices : List SviSlice) (policy : ShortExpiryPolicy) (k : Float) (tau : Float) {r₁ r₂ : Bracket} → (r₁ ≡ bracketRun (runOf slices) policy k tau) → (r₂ ≡ bracketRun (runOf slices) policy k tau) → r₁ ≡ r₂
-bracket slices policy k tau h₁ h₂ = settled h₁ h₂
-
--- surface::region
-pub region : (slices : List SviSlice) (policy : ShortExpiryPolicy) (k : Float) (tau : Float) {r₁ r₂ : Region} → (r₁ ≡ regionRun (runOf slices) policy k tau) → (r₂ ≡ regionRun (runOf slices) policy k tau) → r₁ ≡ r₂
-region slices policy k tau h₁ h₂ = settled h₁ h₂
-
--- surface::total_variance
-pub total-variance : (slices : List SviSlice) (policy : ShortExpiryPolicy) (k : Float) (tau : Float) {r₁ r₂ : Total} → (r₁ ≡ totalRun (runOf slices) policy k tau) → (r₂ ≡ totalRun (runOf slices) policy k tau) → r₁ ≡ r₂
-total-variance slices policy k tau h₁ h₂ = settled h₁ h₂
-
--- surface::covers_nodes
-pub covers-nodes : (slices : List SviSlice) (ks : List Float) (taus : List Float) {r₁ r₂ : Covered} → (r₁ ≡ coversRun (runOf slices) ks taus) → (r₂ ≡ coversRun (runOf slices) ks taus) → r₁ ≡ r₂
-covers-nodes slices ks taus h₁ h₂ = settled h₁ h₂
-
 -- surface::tolerances
 pub tolerances : (taus : List Float) (n : ℕ) {r₁ r₂ : List Float} → (r₁ ≡ tolerancesOf taus n) → (r₂ ≡ tolerancesOf taus n) → r₁ ≡ r₂
 tolerances taus n h₁ h₂ = settled h₁ h₂

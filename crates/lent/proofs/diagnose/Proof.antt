@@ -1,4 +1,4 @@
--- `diagnostics::diagnose` meets its contract: a walk of its MIR. The lent run is handed to `copied`, and the copy that comes back, with the other arguments, to `diagnose_run`. `room` is not used after the call, so it goes to the callee at its own lifetime and name (`gave-slice`).
+-- `lent::diagnose` meets its contract: a walk of its MIR. The lent run is handed to `copied`, and the copy that comes back, with the other arguments, to `diagnose_run`. `room` is not used after the call, so it goes to the callee at its own lifetime and name (`gave-slice`).
 -- All that the proof knows of the two is that each meets its contract. Written by tools/walk.py from its table.
 -- Assumes nothing.
 use mathlib.Core.Path.{_≡_, refl, ap, _∙_}
@@ -47,24 +47,24 @@ use Rattle.surface.proofs.types.Run.Laws as R′
 use Rattle.surface.specs.declared.types.ShortExpiryPolicy.{ShortExpiryPolicy}
 use Rattle.surface.proofs.types.ShortExpiryPolicy as E
 use Rattle.surface.proofs.types.ShortExpiryPolicy.Laws as E′
 use Rattle.diagnostics.specs.declared.report.DiagnosticsConfig.{DiagnosticsConfig}
 use Rattle.diagnostics.proofs.report.DiagnosticsConfig as T
 use Rattle.diagnostics.proofs.report.DiagnosticsConfig.Laws as T′
 use Rattle.diagnostics.specs.declared.report.Diagnosed.{Diagnosed}
 use Rattle.diagnostics.proofs.report.Diagnosed as B
 use Rattle.diagnostics.proofs.report.Diagnosed.Laws as B′
 use Rattle.surface.proofs.Copying.{lentVal, LentRun, Copied, copies}
 use Rattle.surface.proofs.copied.Symbol as copied-def
 use Rattle.surface.proofs.copied.Symbol.{name as #copied}
 use Rattle.surface.proofs.copied.Met as copied-thm
 use Rattle.diagnostics.proofs.report.diagnose_run as does
 use Rattle.diagnostics.proofs.report.diagnose_run.Symbol as does-def
 use Rattle.diagnostics.proofs.report.diagnose_run.Symbol.{name as #does}
 use Rattle.diagnostics.proofs.report.diagnose_run.Met as does-thm
-use Rattle.diagnostics.proofs.diagnose.Key.{name as #this}
-use Rattle.diagnostics.proofs.diagnose as this
-use Rattle.diagnostics.proofs.diagnose.Statement as stated
-use Rattle.diagnostics.proofs.diagnose.Code as code
+use Rattle.lent.proofs.diagnose.Key.{name as #this}
+use Rattle.lent.proofs.diagnose as this
+use Rattle.lent.proofs.diagnose.Statement as stated
+use Rattle.lent.proofs.diagnose.Code as code
 
 abbrev stayed : Stays (this.ended .signature .params) (this.ended .kept)
 stayed = (stay-none-slice (0 ∷ []) tt (plain (λ _. S.the-row)) yes, (stay-none (λ _. E.the-row) yes, (stay-none-slice (1 ∷ []) tt (plain (λ _. f64)) yes, (stay-none-slice (2 ∷ []) tt (plain (λ _. f64)) yes, (stay-none (λ _. T.the-row) yes, (gave-slice (3 ∷ []) tt (plain (λ _. f64)), tt))))))

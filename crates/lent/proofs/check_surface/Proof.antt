@@ -1,4 +1,4 @@
--- `surface::check_surface` meets its contract: a walk of its MIR. The lent run is handed to `copied`, and the copy that comes back to `check_run`.
+-- `lent::check_surface` meets its contract: a walk of its MIR. The lent run is handed to `copied`, and the copy that comes back to `check_run`.
 -- All that the proof knows of the two is that each meets its contract. Written by tools/walk.py from its table.
 -- Assumes nothing.
 use mathlib.Core.Path.{_≡_, refl, ap, _∙_}
@@ -33,25 +33,25 @@ use denote.Triple.Spec.{Meets, tripleOf}
 use denote.Triple.Table.{entered, cited}
 use denote.Triple.Walked.{says, Stays, stay-none-slice, walkOf, goes-none-slice, Walks, ends-at, walked, walk-meets}
 use denote.Exit.{yes}
 use Rattle.surface.specs.Runs.{runOf, checkRun}
 use Rattle.slice.specs.declared.SviSlice.{SviSlice}
 use Rattle.surface.specs.declared.types.Run.{Run}
 use Rattle.slice.proofs.SviSlice as S
 use Rattle.surface.proofs.types.Run as R
 use Rattle.surface.proofs.types.Run.Laws as R′
 use Rattle.laws.proofs.Calling.{calls-for}
 use Rattle.surface.proofs.Copying.{lentVal, LentRun, Copied, copies}
 use Rattle.surface.proofs.copied.Symbol as copied-def
 use Rattle.surface.proofs.copied.Symbol.{name as #copied}
 use Rattle.surface.proofs.copied.Met as copied-thm
 use Rattle.surface.proofs.run.check_run as does
 use Rattle.surface.proofs.run.check_run.Symbol as does-def
 use Rattle.surface.proofs.run.check_run.Symbol.{name as #does}
 use Rattle.surface.proofs.run.check_run.Met as does-thm
-use Rattle.surface.proofs.check_surface.Key.{name as #this}
-use Rattle.surface.proofs.check_surface as this
-use Rattle.surface.proofs.check_surface.Statement as stated
-use Rattle.surface.proofs.check_surface.Code as code
+use Rattle.lent.proofs.check_surface.Key.{name as #this}
+use Rattle.lent.proofs.check_surface as this
+use Rattle.lent.proofs.check_surface.Statement as stated
+use Rattle.lent.proofs.check_surface.Code as code
 
 abbrev stayed : Stays (this.ended .signature .params) (this.ended .kept)
 stayed = (stay-none-slice (0 ∷ []) tt (plain (λ _. S.the-row)) yes, tt)
