@@ -1,4 +1,5 @@
 -- The entry checks of the fit, in document 01's order. Definitions only.
+-- docs/METHOD.md, 'Before the search'.
 use mathlib.Core.Bool.{Bool, true, _&&_}
 use mathlib.Core.List.{List}
 use Prim.Native.Nat.{ℕ, _*_}

@@ -1,4 +1,5 @@
 -- When an entry check fails: the condition of each of document 01's numbers 12, 11, 10 and 1 to 5. Definitions only.
+-- docs/METHOD.md, 'Before the search'.
 use mathlib.Core.Path.{_≡_}
 use mathlib.Core.Bool.{true, false}
 use mathlib.Core.List.{List}

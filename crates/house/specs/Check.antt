@@ -1,4 +1,5 @@
 -- The records as floats, and check 10 over them. Definitions only.
+-- docs/METHOD.md, 'Before the search'.
 use mathlib.Core.Bool.{Bool, true, _&&_}
 use mathlib.Core.List.{List, [], _∷_}
 use lib.Ieee.{Float}

@@ -1,4 +1,5 @@
 -- The bytes of a house file from what it says. Definitions only.
+-- docs/METHOD.md, 'Repeats and the house file'.
 use Prim.Native.Nat.{ℕ, zero, suc, _+_, _*_, _/_, _%_, _^_, _<_}
 use mathlib.Core.List.{List, [], _∷_, _++_}
 use lib.ListN.{length, getD}

@@ -1,4 +1,5 @@
 -- The house file: where its three sections stand, when it is well formed, and what it says. Definitions only.
+-- docs/METHOD.md, 'Repeats and the house file'.
 use Prim.Native.Nat.{ℕ, zero, suc, _+_, _*_, _/_}
 use mathlib.Core.Bool.{_&&_, cond}
 use mathlib.Core.List.{List, [], _∷_}

@@ -1,4 +1,5 @@
 -- Repeats: a record is dropped where an earlier one has the same k, w and weight bits. Definitions only.
+-- docs/METHOD.md, 'Repeats and the house file'.
 use mathlib.Core.Bool.{Bool, false, _&&_, _||_, cond}
 use mathlib.Core.List.{List, [], _∷_, _++_}
 use lib.Dec.{eqb}

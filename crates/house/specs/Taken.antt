@@ -1,4 +1,5 @@
 -- Which records are taken in: what refuses them before repeats are dropped, and what is kept of them. Definitions only.
+-- docs/METHOD.md, 'Before the search', 'Repeats and the house file'.
 use Prim.Native.Nat.{ℕ, _*_}
 use mathlib.Core.Bool.{_&&_}
 use mathlib.Core.List.{List, []}

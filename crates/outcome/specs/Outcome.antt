@@ -1,4 +1,5 @@
 -- What a file, or quotes as they came in, come to: how many came in, how many are kept, the fit's answer, and what it leaves in the two buffers. Definitions only.
+-- docs/METHOD.md, 'Repeats and the house file'.
 use Prim.Native.Nat.{ℕ, _%_}
 use mathlib.Core.List.{List, map}
 use lib.Dec.{eqb}

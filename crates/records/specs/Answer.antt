@@ -1,4 +1,5 @@
 -- A refused fit's answer: zeros but for what is named. Definitions only.
+-- docs/METHOD.md, 'The end'.
 use mathlib.Core.Bool.{false}
 use Prim.Native.Nat.{ℕ}
 use lib.ListN.{replicate}

@@ -1,4 +1,5 @@
 -- One observation. Definitions only.
+-- docs/METHOD.md, 'Before the search'.
 use mathlib.Core.Bool.{Bool, _&&_}
 use lib.Ieee.{Float, le}
 use Rattle.laws.specs.Choice.{unless}

@@ -1,4 +1,5 @@
 -- The eleven settings of the fit: their defaults, their ranges, and their sizes. Definitions only.
+-- docs/METHOD.md, 'Before the search'.
 use mathlib.Core.Bool.{Bool, _&&_}
 use Prim.Native.Nat.{ℕ}
 use lib.Dec.{leb}

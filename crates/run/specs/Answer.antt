@@ -1,4 +1,5 @@
 -- What the fit program answers to a file: every byte of it. Definitions only.
+-- docs/METHOD.md, 'Repeats and the house file'.
 use Prim.Native.Nat.{ℕ}
 use mathlib.Core.Bool.{cond}
 use mathlib.Core.List.{List, _++_}
