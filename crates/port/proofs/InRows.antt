@@ -9,12 +9,12 @@ use Rattle.weights.specs.Weights.{cappedOf}
 use Rattle.records.specs.declared.FitConfig.{FitConfig}
 use Rattle.records.specs.declared.FitAnswer.{FitAnswer}
 use Rattle.calibrate.specs.Fit.{Fitted, fitOf, residualsOf}
-use Rattle.port.specs.Rows.{readConfig, fitCounts, fitValues}
 use Rattle.house.specs.File.{recordsOf}
 use Rattle.house.specs.Repeats.{kept}
 use Rattle.outcome.specs.declared.Outcome.{Outcome}
 use Rattle.outcome.specs.Outcome.{bytesOutcome, residualsFor, cappedFor}
-use Rattle.port.specs.FitRows.{FittedRows, fitUnder, QuotesInRows, outcomeUnder, outcomeCounts}
+use Rattle.port.specs.Rows.{readConfig, fitCounts, outcomeCounts, fitValues}
+use Rattle.port.specs.FitRows.{FittedRows, fitUnder, QuotesRows, quotesUnder}
 
 pub in-rows :
     (tau : Float) (sizes : List ℕ) (reals ks ws ts residuals : List Float) (capped : List ℕ) {c : FitConfig} {a : FitAnswer} {residuals′ : List Float} {capped′ ns : List ℕ} {vs : List Float}
@@ -32,21 +32,21 @@ in-rows tau sizes reals ks ws ts residuals capped {c} {a} h f n v =
       marked = ap (λ (b : FitAnswer). b .active) e;
     }
 
-pub outcome-in-rows :
+pub quotes-in-rows :
     (tau : Float) (sizes : List ℕ) (reals : List Float) (quotes : List ℕ) (residuals : List Float) (capped : List ℕ) {c : FitConfig} {o : Outcome} {residuals′ : List Float} {capped′ ns : List ℕ} {vs : List Float}
     → c ≡ readConfig sizes reals
     → (o ≡ bytesOutcome tau c quotes (length residuals) (length capped))
-    × (residuals′ ≡ written (o .fit .number) (residualsFor (o .fit .slice) (kept (recordsOf quotes))) residuals)
-    × (capped′ ≡ written (o .fit .number) (cappedFor c (kept (recordsOf quotes))) capped)
+    × ((residuals′ ≡ written (o .fit .number) (residualsFor (o .fit .slice) (kept (recordsOf quotes))) residuals)
+    × (capped′ ≡ written (o .fit .number) (cappedFor c (kept (recordsOf quotes))) capped))
     → ns ≡ outcomeCounts o → vs ≡ fitValues (o .fit)
-    → QuotesInRows tau sizes reals quotes residuals capped (o .fit .number) residuals′ capped′ ns vs (o .fit .active)
-unfolding outcomeUnder
-outcome-in-rows tau sizes reals quotes residuals capped {c} {o} h f n v =
-    let e : o ≡ outcomeUnder tau sizes reals quotes residuals capped = f .0 ∙ ap (λ (d : FitConfig). bytesOutcome tau d quotes (length residuals) (length capped)) h in
+    → QuotesRows tau sizes reals quotes residuals capped (o .fit .number) residuals′ capped′ ns vs (o .fit .active)
+unfolding quotesUnder
+quotes-in-rows tau sizes reals quotes residuals capped {c} {o} h f n v =
+    let e : o ≡ quotesUnder tau sizes reals quotes residuals capped = f .0 ∙ ap (λ (d : FitConfig). bytesOutcome tau d quotes (length residuals) (length capped)) h in
     record {
       numbered = ap (λ (p : Outcome). p .fit .number) e;
-      left = f .1 ∙ ap (λ (p : Outcome). written (o .fit .number) (residualsFor (p .fit .slice) (kept (recordsOf quotes))) residuals) e;
-      listed = f .2 ∙ ap (λ (d : FitConfig). written (o .fit .number) (cappedFor d (kept (recordsOf quotes))) capped) h;
+      left = f .1 .0 ∙ ap (λ (p : Outcome). written (o .fit .number) (residualsFor (p .fit .slice) (kept (recordsOf quotes))) residuals) e;
+      listed = f .1 .1 ∙ ap (λ (d : FitConfig). written (o .fit .number) (cappedFor d (kept (recordsOf quotes))) capped) h;
       counted = n ∙ ap outcomeCounts e;
       valued = v ∙ ap (λ (p : Outcome). fitValues (p .fit)) e;
       marked = ap (λ (p : Outcome). p .fit .active) e;

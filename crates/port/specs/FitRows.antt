@@ -1,7 +1,7 @@
--- The fit, and the outcome of quotes as they came in, with settings and answer in rows. Definitions only.
+-- The fit, and what quotes as they came in come to, with settings and answer in rows. Definitions only.
 use mathlib.Core.Path.{_≡_}
 use mathlib.Core.Bool.{Bool}
-use mathlib.Core.List.{List, _∷_}
+use mathlib.Core.List.{List}
 use Prim.Native.Nat.{ℕ}
 use lib.ListN.{length}
 use lib.Ieee.{Float}
@@ -13,7 +13,7 @@ use Rattle.house.specs.File.{recordsOf}
 use Rattle.house.specs.Repeats.{kept}
 use Rattle.outcome.specs.declared.Outcome.{Outcome}
 use Rattle.outcome.specs.Outcome.{bytesOutcome, residualsFor, cappedFor}
-use Rattle.port.specs.Rows.{readConfig, fitCounts, fitValues}
+use Rattle.port.specs.Rows.{readConfig, fitCounts, outcomeCounts, fitValues}
 
 -- the fit under settings in rows, into the room that is lent
 unfoldable pub fitUnder : Float → List ℕ → List Float → List Float → List Float → List Float → List Float → List ℕ → FitAnswer
@@ -30,23 +30,17 @@ pub record FittedRows
   pub valued : values ≡ fitValues (fitUnder tau sizes reals ks ws ts residuals capped)
   pub marked : active ≡ fitUnder tau sizes reals ks ws ts residuals capped .active
 
--- ---- quotes as they came in, 32 bytes each
+-- what quotes in bytes come to under settings in rows, into the room that is lent
+unfoldable pub quotesUnder : Float → List ℕ → List Float → List ℕ → List Float → List ℕ → Outcome
+quotesUnder tau sizes reals quotes residuals capped = bytesOutcome tau (readConfig sizes reals) quotes (length residuals) (length capped)
 
--- their outcome under settings in rows, into the room that is lent
-unfoldable pub outcomeUnder : Float → List ℕ → List Float → List ℕ → List Float → List ℕ → Outcome
-outcomeUnder tau sizes reals quotes residuals capped = bytesOutcome tau (readConfig sizes reals) quotes (length residuals) (length capped)
-
--- read, kept, and the counts of the fit
-abbrev pub outcomeCounts : Outcome → List ℕ
-outcomeCounts o = o .read ∷ o .kept ∷ fitCounts (o .fit)
-
--- the contract of `port_raw_fit_quotes`: as that of `port_raw_fit_slice`, of the first of each quote
-pub record QuotesInRows
+-- the contract of `port_raw_fit_quotes`: the number r and the rows of the outcome; an accepted fit writes the residuals and the capped positions of the quotes kept, a refusal neither
+pub record QuotesRows
     (tau : Float) (sizes : List ℕ) (reals : List Float) (quotes : List ℕ) (residuals : List Float) (capped : List ℕ)
     (r : ℕ) (residuals′ : List Float) (capped′ counts : List ℕ) (values : List Float) (active : List Bool) : Type 0 where
-  pub numbered : r ≡ outcomeUnder tau sizes reals quotes residuals capped .fit .number
-  pub left : residuals′ ≡ written r (residualsFor (outcomeUnder tau sizes reals quotes residuals capped .fit .slice) (kept (recordsOf quotes))) residuals
+  pub numbered : r ≡ quotesUnder tau sizes reals quotes residuals capped .fit .number
+  pub left : residuals′ ≡ written r (residualsFor (quotesUnder tau sizes reals quotes residuals capped .fit .slice) (kept (recordsOf quotes))) residuals
   pub listed : capped′ ≡ written r (cappedFor (readConfig sizes reals) (kept (recordsOf quotes))) capped
-  pub counted : counts ≡ outcomeCounts (outcomeUnder tau sizes reals quotes residuals capped)
-  pub valued : values ≡ fitValues (outcomeUnder tau sizes reals quotes residuals capped .fit)
-  pub marked : active ≡ outcomeUnder tau sizes reals quotes residuals capped .fit .active
+  pub counted : counts ≡ outcomeCounts (quotesUnder tau sizes reals quotes residuals capped)
+  pub valued : values ≡ fitValues (quotesUnder tau sizes reals quotes residuals capped .fit)
+  pub marked : active ≡ quotesUnder tau sizes reals quotes residuals capped .fit .active

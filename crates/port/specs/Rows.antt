@@ -10,6 +10,7 @@ use Rattle.cell.specs.declared.Limits.{Limits}
 use Rattle.cell.specs.declared.Cell.{Cell}
 use Rattle.records.specs.declared.FitConfig.{FitConfig}
 use Rattle.records.specs.declared.FitAnswer.{FitAnswer}
+use Rattle.outcome.specs.declared.Outcome.{Outcome}
 use Rattle.port.specs.declared.slices.ValuesAnswer.{ValuesAnswer}
 
 -- ---- read
@@ -84,6 +85,10 @@ realsRow c =
 abbrev pub fitCounts : FitAnswer → List ℕ
 fitCounts a =
     a .observed ∷ a .required ∷ a .counts .passes ∷ a .counts .recentres ∷ a .counts .shrinks ∷ a .counts .cells ∷ a .counts .faces ∷ a .capped ∷ []
+
+-- read, kept, then the eight counts of the fit
+abbrev pub outcomeCounts : Outcome → List ℕ
+outcomeCounts o = o .read ∷ o .kept ∷ fitCounts (o .fit)
 
 -- rmse_vol, max_rmse_vol, the eight numbers of the slice, objective, objective_params, lee_margin, a_margin
 abbrev pub fitValues : FitAnswer → List Float

@@ -1,8 +1,8 @@
-// The fit of one slice, of columns or of quotes as they came in, for callers outside. Settings are two rows: sizes and reals.
+// The fit of one slice, from columns or from quotes as they came in, for callers outside. Settings are two rows: sizes and reals.
 ghost use mathlib.Core.Path.{_≡_};
 ghost use Rattle.records.specs.Settings.{defaultsOf};
-ghost use Rattle.port.specs.Rows.{readConfig, sizesRow, realsRow, fitCounts, fitValues};
-ghost use Rattle.port.specs.FitRows.{FittedRows, outcomeCounts, QuotesInRows};
+ghost use Rattle.port.specs.Rows.{readConfig, sizesRow, realsRow, fitCounts, outcomeCounts, fitValues};
+ghost use Rattle.port.specs.FitRows.{FittedRows, QuotesRows};
 use outcome::Outcome;
 use records::FitAnswer;
 use records::FitConfig;
@@ -43,6 +43,24 @@ fn fit_counts(a: FitAnswer) -> [usize; 8]
     ]
 }
 
+fn outcome_counts(o: Outcome) -> [usize; 10]
+    ensures { λ r. ⌜ r ≡ outcomeCounts o ⌝ }
+{
+    let n = fit_counts(o.fit);
+    [
+        o.read,
+        o.kept,
+        n[0],
+        n[1],
+        n[2],
+        n[3],
+        n[4],
+        n[5],
+        n[6],
+        n[7],
+    ]
+}
+
 fn fit_values(a: FitAnswer) -> [f64; 14]
     ensures { λ r. ⌜ r ≡ fitValues a ⌝ }
 {
@@ -62,25 +80,6 @@ fn fit_values(a: FitAnswer) -> [f64; 14]
         a.objective_params,
         a.lee_margin,
         a.a_margin,
-    ]
-}
-
-fn outcome_counts(o: Outcome) -> [usize; 10]
-    ensures { λ r. ⌜ r ≡ outcomeCounts o ⌝ }
-{
-    let a = o.fit;
-    let n = a.counts;
-    [
-        o.read,
-        o.kept,
-        a.observed,
-        a.required,
-        n.passes,
-        n.recentres,
-        n.shrinks,
-        n.cells,
-        n.faces,
-        a.capped,
     ]
 }
 
@@ -134,8 +133,8 @@ pub extern "C" fn port_raw_fit_slice(
     a.number
 }
 
-// Quotes as they came in, 32 bytes each as in a house file: repeats are dropped, then the rest is fitted into the room that is lent, which is for all that came in.
-// counts: read, kept, then those of port_raw_fit_slice; values and active as there.
+// The fit of quotes of 32 bytes each, as in a house file: repeats are dropped, and room is lent for every quote that comes in.
+// counts: read, kept, then the eight of port_raw_fit_slice; values and active as there.
 #[no_mangle]
 pub extern "C" fn port_raw_fit_quotes(
     tau: f64,
@@ -148,7 +147,7 @@ pub extern "C" fn port_raw_fit_quotes(
     values: &mut [f64; 14],
     active: &mut [bool; 7],
 ) -> u32
-    ensures { λ r. ⌜ QuotesInRows tau (now (sizes .entry)) (now (reals .entry)) (now (quotes .entry)) (now (residuals .entry)) (now (capped .entry)) r (now (residuals .exit)) (now (capped .exit)) (now (counts .exit)) (now (values .exit)) (now (active .exit)) ⌝ }
+    ensures { λ r. ⌜ QuotesRows tau (now (sizes .entry)) (now (reals .entry)) (now (quotes .entry)) (now (residuals .entry)) (now (capped .entry)) r (now (residuals .exit)) (now (capped .exit)) (now (counts .exit)) (now (values .exit)) (now (active .exit)) ⌝ }
 {
     let config = read_config(sizes, reals);
     let o = outcome::of_quotes(tau, config, quotes, residuals, capped);

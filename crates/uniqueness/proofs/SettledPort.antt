@@ -10,7 +10,7 @@ use Rattle.laws.proofs.Choices.{settled}
 use Rattle.point.specs.Point.{pointNumber, totalOf}
 use Rattle.port.specs.Abi.{abiNumber}
 use Rattle.port.specs.Answers.{bracketFor, checkAt, coversFor, diagnosedCounts, diagnosedFor, diagnosedWorst, placesRow, regionFor, reportAt, roomFor, totalAnswer, totalFor, totalRow}
-use Rattle.port.specs.FitRows.{FittedRows, QuotesInRows}
+use Rattle.port.specs.FitRows.{FittedRows, QuotesRows}
 use Rattle.port.specs.Flag.{flag}
 use Rattle.port.specs.Rows.{cellValues, rangeRow, readLimits, readRange, readSlice, realsRow, sizesRow, sliceRow, valuesRow}
 use Rattle.port.specs.Slices.{levelAnswer, rangeAnswer, sliceAnswer, valuesAnswer}
@@ -42,7 +42,7 @@ pub port-raw-fit-slice : (tau : Float) (sizes : List ℕ) (reals : List Float) (
 port-raw-fit-slice tau sizes reals k w weight residuals capped counts values active {r₁} {r₂} {residuals-exit₁} {residuals-exit₂} {capped-exit₁} {capped-exit₂} {counts-exit₁} {counts-exit₂} {values-exit₁} {values-exit₂} {active-exit₁} {active-exit₂} h₁ h₂ = (cc, cc, cc, cc, cc, cc)
 
 -- port::port_raw_fit_quotes
-pub port-raw-fit-quotes : (tau : Float) (sizes : List ℕ) (reals : List Float) (quotes : List ℕ) (residuals : List Float) (capped : List ℕ) (counts : List ℕ) (values : List Float) (active : List Bool) {r₁ r₂ : ℕ} {residuals-exit₁ residuals-exit₂ : List Float} {capped-exit₁ capped-exit₂ : List ℕ} {counts-exit₁ counts-exit₂ : List ℕ} {values-exit₁ values-exit₂ : List Float} {active-exit₁ active-exit₂ : List Bool} → (QuotesInRows tau sizes reals quotes residuals capped r₁ residuals-exit₁ capped-exit₁ counts-exit₁ values-exit₁ active-exit₁) → (QuotesInRows tau sizes reals quotes residuals capped r₂ residuals-exit₂ capped-exit₂ counts-exit₂ values-exit₂ active-exit₂) → (r₁ ≡ r₂) × (residuals-exit₁ ≡ residuals-exit₂) × (capped-exit₁ ≡ capped-exit₂) × (counts-exit₁ ≡ counts-exit₂) × (values-exit₁ ≡ values-exit₂) × (active-exit₁ ≡ active-exit₂)
+pub port-raw-fit-quotes : (tau : Float) (sizes : List ℕ) (reals : List Float) (quotes : List ℕ) (residuals : List Float) (capped : List ℕ) (counts : List ℕ) (values : List Float) (active : List Bool) {r₁ r₂ : ℕ} {residuals-exit₁ residuals-exit₂ : List Float} {capped-exit₁ capped-exit₂ : List ℕ} {counts-exit₁ counts-exit₂ : List ℕ} {values-exit₁ values-exit₂ : List Float} {active-exit₁ active-exit₂ : List Bool} → (QuotesRows tau sizes reals quotes residuals capped r₁ residuals-exit₁ capped-exit₁ counts-exit₁ values-exit₁ active-exit₁) → (QuotesRows tau sizes reals quotes residuals capped r₂ residuals-exit₂ capped-exit₂ counts-exit₂ values-exit₂ active-exit₂) → (r₁ ≡ r₂) × (residuals-exit₁ ≡ residuals-exit₂) × (capped-exit₁ ≡ capped-exit₂) × (counts-exit₁ ≡ counts-exit₂) × (values-exit₁ ≡ values-exit₂) × (active-exit₁ ≡ active-exit₂)
 port-raw-fit-quotes tau sizes reals quotes residuals capped counts values active {r₁} {r₂} {residuals-exit₁} {residuals-exit₂} {capped-exit₁} {capped-exit₂} {counts-exit₁} {counts-exit₂} {values-exit₁} {values-exit₂} {active-exit₁} {active-exit₂} h₁ h₂ = (cc, cc, cc, cc, cc, cc)
 
 -- port::port_sqrt
