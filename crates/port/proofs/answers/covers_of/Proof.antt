@@ -1,12 +1,19 @@
 -- `port::answers::covers_of` meets its contract. Assumes nothing.
-use Rattle.port.specs.Answers.{coversFor}
+use mathlib.Core.Path.{_≡_, ap, _∙_}
+use mathlib.Core.List.{[], _∷_}
+use Prim.Native.Nat.{ℕ}
+use Rattle.port.specs.Flag.{flag}
+use Rattle.port.specs.declared.answers.CoversAnswer.{CoversAnswer}
+use Rattle.port.specs.Answers.{coversAnswer, coversFor}
 use borrow.Author.Needs.{needs}
 use Rattle.port.proofs.answers.covers_of.Statement.{statement}
 use Rattle.port.proofs.answers.covers_of.Tie as tie
 
 returns : tie.Need-returns
 unfolding coversFor
-returns c = (cc, cc)
+returns c =
+    let e = c .before .before .covers-answer .ensures ∙ ap coversAnswer (c .before .before .before .covers-run .ensures) in
+    (ap (λ (x : CoversAnswer). x .number) e, ap (λ (n : ℕ). n ∷ []) (c .before .pick-count .ensures) ∙ ap (λ (x : CoversAnswer). flag (x .all) ∷ []) e)
 
 pub covers-of-spec : {M : Type 1} → statement M
 covers-of-spec =

@@ -1,10 +1,19 @@
 -- `port::slices::port_raw_slice` meets its contract. Assumes nothing.
+use mathlib.Core.Path.{_≡_, ap, _∙_}
+use Rattle.slice.specs.declared.KRange.{KRange}
+use Rattle.slice.specs.Slice.{madeOf}
+use Rattle.port.specs.Slices.{sliceAnswer}
+use Rattle.port.specs.Rows.{sliceRow}
+use Rattle.port.specs.declared.slices.SliceAnswer.{SliceAnswer}
 use borrow.Author.Needs.{needs}
 use Rattle.port.proofs.slices.port_raw_slice.Statement.{statement}
 use Rattle.port.proofs.slices.port_raw_slice.Tie as tie
 
 returns : tie.Need-returns
-returns c = (cc, cc)
+returns c =
+    let a = c .before .before .before .before .before .args in
+    let e = c .before .before .slice-answer .ensures ∙ ap sliceAnswer (c .before .before .before .new .ensures ∙ ap (λ (r : KRange). madeOf (a .tau) (a .a) (a .b) (a .rho) (a .m) (a .sigma) r) (c .before .before .before .before .read-range .ensures)) in
+    (ap (λ (x : SliceAnswer). x .number) e, ap (λ (x : SliceAnswer). sliceRow (x .slice)) e)
 
 pub port-raw-slice-spec : {M : Type 1} → statement M
 port-raw-slice-spec =
