@@ -8,7 +8,7 @@ from unittest import mock
 
 from support import Case, program
 
-ONE = "crates/surface/proofs/bracket/Proof.antt"
+ONE = "crates/lent/proofs/bracket/Proof.antt"
 
 
 class Walk(Case):
