@@ -23,6 +23,7 @@ use Rattle.house.specs.Repeats.{kept}
 use Rattle.house.specs.Taken.{intakeNumber}
 use Rattle.outcome.specs.declared.Outcome.{Outcome}
 
+-- so many came in, so many are kept, and this is their fit
 abbrev pub outcomeWith : ℕ → ℕ → FitAnswer → Outcome
 outcomeWith read kept fit = record { read = read; kept = kept; fit = fit }
 

@@ -40,7 +40,7 @@ use Rattle.outcome.specs.declared.Outcome.{Outcome}
 use Rattle.outcome.specs.Outcome.{outcomeWith, refusedAt, fitFor, quotesOutcome, outcomeFor, fileOutcome, settingsFor, settingsOf}
 use Rattle.text.specs.Lines.{readLine, searchLine, cappedLine, pointLines, refusedLine, refusedFloats}
 use Rattle.text.specs.Answers.{malformedText, refusedOf, refusalText, figuresText}
-use Rattle.run.specs.Answer.{restText, restOf, answerOf}
+use Rattle.run.specs.Answer.{restText, behindRead, answerOf}
 
 pub data Form : List ℕ → Type 0 where
   malformed : Form (refusedLine 43 0 0)
@@ -254,5 +254,5 @@ by s (File v n) e =
     (quotes-form (tauOf s v) (configOf s v) qs (omega (arith, quotes-length s (20 + 88 * v) n, file-is s v n e .1)))
 
 pub one-of-the-forms : (s : List ℕ) → Form (answerOf s)
-unfolding answerOf restOf fileOutcome settingsOf keptOf
+unfolding answerOf behindRead fileOutcome settingsOf keptOf
 one-of-the-forms s = by s (houseOf s) refl

@@ -21,7 +21,7 @@ use Rattle.records.specs.Settings.{sizesHold, settingsHold}
 use Rattle.records.specs.Answer.{refusedWith}
 use Rattle.calibrate.specs.Fit.{fitOf}
 use Rattle.outcome.specs.Outcome.{fileOutcome, quotesOutcome, settingsOf}
-use Rattle.run.specs.Answer.{restText, restOf, answerOf}
+use Rattle.run.specs.Answer.{restText, behindRead, answerOf}
 
 abbrev pub record-7 : Quote
 record-7 = record { number = 7; k = 0; w = 0x3fd0_0000_0000_0000; weight = 0x3ff0_0000_0000_0000 }
@@ -32,7 +32,7 @@ paper-file = fileBytes 0 [] 0x3fd0_0000_0000_0000 (replicate 9 record-7)
 pub paper-example : answerOf paper-file ≡ ascii "read 9 kept 1\nrefused 3 1 5\n"
 unfolding
     answerOf
-    restOf
+    behindRead
     restText
     fileOutcome
     quotesOutcome

@@ -23,12 +23,12 @@ use Rattle.outcome.proofs.Coming.{refused-is, fitted-is, for-house, malformed-i
 use Rattle.outcome.proofs.OnlyMalformed.{quotes-other}
 use Rattle.text.specs.Lines.{readLine, refusedLine}
 use Rattle.text.specs.Answers.{malformedText, refusedOf, refusalText}
-use Rattle.run.specs.Answer.{restText, restOf, answerOf}
+use Rattle.run.specs.Answer.{restText, behindRead, answerOf}
 
 -- the answer that an outcome gives
 answer-from : (s : List ℕ) (o : Outcome) → o ≡ fileOutcome s 1024 256
     → cond (eqb (o .fit .number) 43) malformedText (readLine (o .read) (o .kept) ++ restText (o .fit) (settingsOf s) (keptOf s)) ≡ answerOf s
-unfolding answerOf restOf
+unfolding answerOf behindRead
 answer-from s o e = ap (λ (o : Outcome). cond (eqb (o .fit .number) 43) malformedText (readLine (o .read) (o .kept) ++ restText (o .fit) (settingsOf s) (keptOf s))) e
 
 -- a malformed file has no such line
@@ -53,11 +53,11 @@ module _ (s : List ℕ) (v n : ℕ) (e : File v n ≡ houseOf s) where
   read-is = sym (ap (λ (o : Outcome). o .read) file-outcome) ∙ cond-ind (λ (o : Outcome). o .read ≡ n) (eqb (intakeNumber (configOf s v) (recordsAt s v n) 1024 256) 0) count count
 
   -- its `read` line and the rest
-  pub answer-is : answerOf s ≡ readLine n (fileOutcome s 1024 256 .kept) ++ restOf s
+  pub answer-is : answerOf s ≡ readLine n (fileOutcome s 1024 256 .kept) ++ behindRead s
   unfolding answerOf
   answer-is =
       sym (if-false malformedText (ne-eqb (fileOutcome s 1024 256 .fit .number) 43 (λ z. quotes-other (tauOf s v) (configOf s v) (recordsAt s v n) 1024 256 (ap (λ (o : Outcome). o .fit .number) file-outcome ∙ z))) refl)
-      ∙ ap (λ (r : ℕ). readLine r (fileOutcome s 1024 256 .kept) ++ restOf s) read-is
+      ∙ ap (λ (r : ℕ). readLine r (fileOutcome s 1024 256 .kept) ++ behindRead s) read-is
 
   -- refused before dropping
   early : (r : ℕ) → intakeNumber (configOf s v) (recordsAt s v n) 1024 256 ≡ r → (r ≡ 0 → ⊥) → refusedAt r n ≡ fileOutcome s 1024 256
@@ -93,7 +93,7 @@ module _ (s : List ℕ) (v n : ℕ) (e : File v n ≡ houseOf s) where
       → (rest : List ℕ) × (answerOf s ≡ readLine n (length (kept (recordsAt s v n))) ++ rest)
   kept-after-dropping h k =
       let o = fitted-is (tauOf s v) (configOf s v) (recordsAt s v n) 1024 256 0 (sym (number-0 h k)) refl (fitFor (tauOf s v) (configOf s v) (kept (recordsAt s v n)) 1024 256) refl ∙ file-outcome in
-      (restOf s, answer-is ∙ ap (λ (m : ℕ). readLine n m ++ restOf s) (sym (ap (λ (o : Outcome). o .kept) o)))
+      (behindRead s, answer-is ∙ ap (λ (m : ℕ). readLine n m ++ behindRead s) (sym (ap (λ (o : Outcome). o .kept) o)))
 
   -- in any case the first line is `read n kept m`, where m is at most n
   pub first-line : (m : ℕ) × (rest : List ℕ) × (answerOf s ≡ readLine n m ++ rest) × (m ≤ n)
@@ -102,4 +102,4 @@ module _ (s : List ℕ) (v n : ℕ) (e : File v n ≡ houseOf s) where
       let few = kept-short (recordsAt s v n) in
       let most : quotesOutcome (tauOf s v) (configOf s v) (recordsAt s v n) 1024 256 .kept ≤ n =
       cond-ind (λ (o : Outcome). o .kept ≤ n) (eqb (intakeNumber (configOf s v) (recordsAt s v n) 1024 256) 0) (omega (arith, few, count)) (omega (arith, count)) in
-      (fileOutcome s 1024 256 .kept, restOf s, answer-is, omega (arith, most, ap (λ (o : Outcome). o .kept) file-outcome))
+      (fileOutcome s 1024 256 .kept, behindRead s, answer-is, omega (arith, most, ap (λ (o : Outcome). o .kept) file-outcome))

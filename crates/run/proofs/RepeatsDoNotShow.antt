@@ -17,7 +17,7 @@ use Rattle.outcome.specs.Outcome.{outcomeWith, fileOutcome, settingsOf}
 use Rattle.outcome.proofs.Coming.{settings-file}
 use Rattle.outcome.proofs.RepeatsDoNotCount.{repeats-do-not-count}
 use Rattle.text.specs.Lines.{readLine}
-use Rattle.run.specs.Answer.{restText, restOf, answerOf}
+use Rattle.run.specs.Answer.{restText, behindRead, answerOf}
 use Rattle.run.proofs.ReadAndKept.{answer-is}
 
 module _ (s : List ℕ) (b : Bytes s) (v n : ℕ) (e : File v n ≡ houseOf s) where
@@ -33,8 +33,8 @@ module _ (s : List ℕ) (b : Bytes s) (v n : ℕ) (e : File v n ≡ houseOf s) w
   settings-same : settingsOf (onceOf s) ≡ settingsOf s
   settings-same = sym (settings-file (onceOf s) v m (sym (once-house s b v n e))) ∙ once-config s b v n e ∙ settings-file s v n e
 
-  rest-same : restOf (onceOf s) ≡ restOf s
-  unfolding restOf
+  rest-same : behindRead (onceOf s) ≡ behindRead s
+  unfolding behindRead
   rest-same =
       ap (λ (o : Outcome). restText (o .fit) (settingsOf (onceOf s)) (keptOf (onceOf s))) once
       ∙ ap (λ (c : FitConfig). restText (fileOutcome s 1024 256 .fit) c (keptOf (onceOf s))) settings-same
@@ -42,11 +42,11 @@ module _ (s : List ℕ) (b : Bytes s) (v n : ℕ) (e : File v n ≡ houseOf s) w
 
   -- the file itself, and the one with only the first of each of its records
   pub repeats-do-not-show :
-      (answerOf s ≡ readLine n (fileOutcome s 1024 256 .kept) ++ restOf s)
-      × (answerOf (onceOf s) ≡ readLine (length (kept (recordsAt s v n))) (length (kept (recordsAt s v n))) ++ restOf s)
+      (answerOf s ≡ readLine n (fileOutcome s 1024 256 .kept) ++ behindRead s)
+      × (answerOf (onceOf s) ≡ readLine (length (kept (recordsAt s v n))) (length (kept (recordsAt s v n))) ++ behindRead s)
   repeats-do-not-show = (
     answer-is s v n e,
     answer-is (onceOf s) v m (sym (once-house s b v n e))
-        ∙ ap (λ (k : ℕ). readLine m k ++ restOf (onceOf s)) (ap (λ (o : Outcome). o .kept) once)
+        ∙ ap (λ (k : ℕ). readLine m k ++ behindRead (onceOf s)) (ap (λ (o : Outcome). o .kept) once)
         ∙ ap (λ (t : List ℕ). readLine m m ++ t) rest-same,
   )

@@ -20,11 +20,11 @@ restText a config qs =
     (figuresText a ++ (cappedLine (cappedFor config qs) ++ pointLines (residualsFor (a .slice) qs)))
 
 -- what stands behind a file's `read` line, with room for 1024 residual numbers and 256 capped positions
-unfoldable pub restOf : List ℕ → List ℕ
-restOf file = restText (fileOutcome file 1024 256 .fit) (settingsOf file) (keptOf file)
+unfoldable pub behindRead : List ℕ → List ℕ
+behindRead file = restText (fileOutcome file 1024 256 .fit) (settingsOf file) (keptOf file)
 
 -- a malformed file's one line, or the `read` line and the rest
 unfoldable pub answerOf : List ℕ → List ℕ
 answerOf file =
     let o = fileOutcome file 1024 256 in
-    cond (eqb (o .fit .number) 43) malformedText (readLine (o .read) (o .kept) ++ restOf file)
+    cond (eqb (o .fit .number) 43) malformedText (readLine (o .read) (o .kept) ++ behindRead file)
