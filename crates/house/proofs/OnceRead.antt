@@ -10,7 +10,7 @@ use Rattle.laws.specs.Floats.{f64}
 use Rattle.bits.specs.Bytes.{u64At}
 use Rattle.house.specs.declared.House.the-variants.{File}
 use Rattle.house.specs.declared.Quote.{Quote}
-use Rattle.house.specs.File.{houseOf, f64At, tauOf, settingsAt, configOf, quoteAt, quotes, recordsAt}
+use Rattle.house.specs.File.{houseOf, f64At, tauPlace, tauOf, settingsAt, configOf, quoteAt, quotes, recordsAt}
 use Rattle.house.specs.Repeats.{among, unrepeated, keptAfter, kept}
 use Rattle.house.specs.Taken.{keptFor, keptOf}
 use Rattle.house.specs.Encode.{fileBytes, Bytes, Wide, AllWide, wordsFrom, onceFor, onceOf}
@@ -67,7 +67,7 @@ module _ (s : List ℕ) (b : Bytes s) (v n : ℕ) (e : File v n ≡ houseOf s) w
   all = recordsAt s v n
 
   abbrev written : List ℕ
-  written = fileBytes v (wordsFrom s 4 (11 * v)) (u64At s (8 + 88 * v)) (kept all)
+  written = fileBytes v (wordsFrom s 4 (11 * v)) (u64At s (tauPlace v)) (kept all)
 
   once-is : written ≡ onceOf s
   unfolding onceOf
@@ -86,31 +86,31 @@ module _ (s : List ℕ) (b : Bytes s) (v n : ℕ) (e : File v n ≡ houseOf s) w
   short = omega (arith, few, within)
 
   pub once-house : houseOf (onceOf s) ≡ File v (length (kept (recordsAt s v n)))
-  once-house = ap houseOf (sym once-is) ∙ house-back v (wordsFrom s 4 (11 * v)) (u64At s (8 + 88 * v)) (kept all) small (words-length s 4 (11 * v)) short
+  once-house = ap houseOf (sym once-is) ∙ house-back v (wordsFrom s 4 (11 * v)) (u64At s (tauPlace v)) (kept all) small (words-length s 4 (11 * v)) short
 
   pub once-records : recordsAt (onceOf s) v (length (kept (recordsAt s v n))) ≡ kept (recordsAt s v n)
   once-records =
       ap (λ (x : List ℕ). recordsAt x v (length (kept all))) (sym once-is)
-      ∙ records-back v (wordsFrom s 4 (11 * v)) (u64At s (8 + 88 * v)) (kept all) small (words-length s 4 (11 * v)) short (kept-wide all (quotes-wide s b (20 + 88 * v) n))
+      ∙ records-back v (wordsFrom s 4 (11 * v)) (u64At s (tauPlace v)) (kept all) small (words-length s 4 (11 * v)) short (kept-wide all (quotes-wide s b (20 + 88 * v) n))
 
   pub once-kept : keptOf (onceOf s) ≡ keptOf s
   unfolding keptOf
   once-kept = ap (keptFor (onceOf s)) once-house ∙ ap kept once-records ∙ kept-once all ∙ ap (keptFor s) e
 
-  tau-same : u64At (onceOf s) (8 + 88 * v) ≡ u64At s (8 + 88 * v)
+  tau-same : u64At (onceOf s) (8 + 88 * v) ≡ u64At s (tauPlace v)
   tau-same =
       ap (λ (x : List ℕ). u64At x (8 + 88 * v)) (sym once-is)
-      ∙ tau-back v (wordsFrom s 4 (11 * v)) (u64At s (8 + 88 * v)) (kept all) small (words-length s 4 (11 * v)) short (u64-wide s b (8 + 88 * v))
+      ∙ tau-back v (wordsFrom s 4 (11 * v)) (u64At s (tauPlace v)) (kept all) small (words-length s 4 (11 * v)) short (u64-wide s b (tauPlace v))
 
   word-same : (i : ℕ) → i < 11 * v → u64At (onceOf s) (4 + 8 * i) ≡ u64At s (4 + 8 * i)
   word-same i l =
       let k : i < length (wordsFrom s 4 (11 * v)) = omega (arith, words-length s 4 (11 * v)) in
       ap (λ (x : List ℕ). u64At x (4 + 8 * i)) (sym once-is)
-      ∙ settings-back v (wordsFrom s 4 (11 * v)) (u64At s (8 + 88 * v)) (kept all) small (words-length s 4 (11 * v)) short (words-wide s b 4 (11 * v)) i k
+      ∙ settings-back v (wordsFrom s 4 (11 * v)) (u64At s (tauPlace v)) (kept all) small (words-length s 4 (11 * v)) short (words-wide s b 4 (11 * v)) i k
       ∙ words-at s 4 (11 * v) i l
 
 -- the same words give the same tau and settings
-tau-from : (s o : List ℕ) (v : ℕ) → v ≤ 1 → u64At o (8 + 88 * v) ≡ u64At s (8 + 88 * v) → tauOf o v ≡ tauOf s v
+tau-from : (s o : List ℕ) (v : ℕ) → v ≤ 1 → u64At o (8 + 88 * v) ≡ u64At s (tauPlace v) → tauOf o v ≡ tauOf s v
 unfolding tauOf f64At
 tau-from s o zero l e = ap f64 e
 tau-from s o (suc zero) l e = ap f64 e

@@ -7,7 +7,7 @@ use Rattle.bits.specs.Bytes.{u64At}
 use Rattle.house.specs.declared.House.{House}
 use Rattle.house.specs.declared.House.the-variants.{Malformed, File}
 use Rattle.house.specs.declared.Quote.{Quote}
-use Rattle.house.specs.File.{houseOf, recordsAt}
+use Rattle.house.specs.File.{houseOf, tauPlace, recordsAt}
 use Rattle.house.specs.Repeats.{kept}
 
 -- k bytes, the low one first
@@ -53,7 +53,7 @@ wordsFrom s at (suc n) = u64At s at ∷ wordsFrom s (at + 8) n
 -- the file that holds only the first of each record, with the same settings and tau
 abbrev pub onceFor : List ℕ → House → List ℕ
 onceFor s Malformed = s
-onceFor s (File c n) = fileBytes c (wordsFrom s 4 (11 * c)) (u64At s (8 + 88 * c)) (kept (recordsAt s c n))
+onceFor s (File c n) = fileBytes c (wordsFrom s 4 (11 * c)) (u64At s (tauPlace c)) (kept (recordsAt s c n))
 
 unfoldable pub onceOf : List ℕ → List ℕ
 onceOf s = onceFor s (houseOf s)

@@ -28,8 +28,11 @@ unfoldable pub f64At : List ℕ → ℕ → Float
 f64At s at = f64 (u64At s at)
 
 -- tau stands after the expiry count: at 8, or at 96 where there are settings
+abbrev pub tauPlace : ℕ → ℕ
+tauPlace settings = cond (eqb settings 0) 8 96
+
 unfoldable pub tauOf : List ℕ → ℕ → Float
-tauOf s settings = f64At s (cond (eqb settings 0) 8 96)
+tauOf s settings = f64At s (tauPlace settings)
 
 -- eleven words as settings, in the order of `FitConfig`: whole numbers, and the bits of floats
 abbrev pub settingsBy : (ℕ → ℕ) → FitConfig
