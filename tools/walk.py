@@ -719,8 +719,8 @@ NODES = [lent("ks"), lent("taus")]
 
 
 def answer(name, form, *words):
-    """Of the record that a definition of crate port answers with: a value, or a row by these words of it."""
-    return Definition("port", "Answers", name, form, [("Flag" if word == "flag" else "Answers", word) for word in words])
+    """Of the record that a definition of crate rows answers with: a value, or a row by these words of it."""
+    return Definition("rows", "Answers", name, form, [("Flag" if word == "flag" else "Answers", word) for word in words])
 
 
 TABLE = [
@@ -732,17 +732,17 @@ TABLE = [
     Walk("lent", "diagnose", ("diagnostics", "report.diagnose_run"), [of_type("policy", POLICY), *NODES, of_type("config", CONFIG), lent_to_write("room")],
          Definition("diagnostics", "Diagnostics", "diagnoseOf", "{} .answer"), enum("diagnostics", "report.Diagnosed", "B"), Definition("diagnostics", "Diagnostics", "diagnoseOf", "{} .room")),
     Walk("port", "surfaces.port_surface", ("surface", "run.check_run"), [], Definition("surface", "Runs", "checkRun"), U32),
-    Walk("port", "surfaces.port_raw_bracket", ("port", "answers.bracket_of"), [*PORT_POINT, array_to_write("places", USIZE, 3), array_to_write("x", F64, 1)],
+    Walk("port", "surfaces.port_raw_bracket", ("rows", "answers.bracket_of"), [*PORT_POINT, array_to_write("places", USIZE, 3), array_to_write("x", F64, 1)],
          answer("bracketFor", "{} .number"), U32, answer("bracketFor", "placesRow ({})", "placesRow"), answer("bracketFor", "{} .x ∷ []")),
-    Walk("port", "surfaces.port_raw_region", ("port", "answers.region_of"), [*PORT_POINT, array_to_write("calibrated", USIZE, 1)],
+    Walk("port", "surfaces.port_raw_region", ("rows", "answers.region_of"), [*PORT_POINT, array_to_write("calibrated", USIZE, 1)],
          answer("regionFor", "{} .number"), U32, answer("regionFor", "flag ({} .calibrated) ∷ []", "flag")),
-    Walk("port", "surfaces.port_raw_total_variance", ("port", "answers.total_of"), [*PORT_POINT, array_to_write("total", F64, 4)],
+    Walk("port", "surfaces.port_raw_total_variance", ("rows", "answers.total_of"), [*PORT_POINT, array_to_write("total", F64, 4)],
          answer("totalFor", "{} .number"), U32, answer("totalFor", "totalRow ({})", "totalRow")),
-    Walk("port", "surfaces.port_raw_covers_nodes", ("port", "answers.covers_of"), [*NODES, array_to_write("all", USIZE, 1)],
+    Walk("port", "surfaces.port_raw_covers_nodes", ("rows", "answers.covers_of"), [*NODES, array_to_write("all", USIZE, 1)],
          answer("coversFor", "{} .number"), U32, answer("coversFor", "flag ({} .all) ∷ []", "flag")),
-    Walk("port", "surfaces.port_raw_diagnose", ("port", "answers.diagnose_of"),
+    Walk("port", "surfaces.port_raw_diagnose", ("rows", "answers.diagnose_of"),
          [integer("policy"), *NODES, real("butterfly"), real("calendar"), lent_to_write("room"), array_to_write("counts", USIZE, 10), array_to_write("worst", F64, 9)],
-         answer("diagnosedFor", "{} .number"), U32, Definition("port", "Answers", "roomFor"),
+         answer("diagnosedFor", "{} .number"), U32, Definition("rows", "Answers", "roomFor"),
          answer("diagnosedFor", "diagnosedCounts ({})", "diagnosedCounts"), answer("diagnosedFor", "diagnosedWorst ({})", "diagnosedWorst")),
 ]
 

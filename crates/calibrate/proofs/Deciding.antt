@@ -14,9 +14,9 @@ use Rattle.exponent.specs.Exp.{expOf}
 use Rattle.exponent.specs.Ln.{lnOf}
 use Rattle.laws.specs.Floats.{_+f_, _-f_, _*f_}
 use Rattle.records.specs.declared.Counts.{Counts}
-use Rattle.search.specs.declared.Found.{Found}
-use Rattle.search.specs.declared.Plan.{Plan}
-use Rattle.search.specs.declared.Search.{Search}
+use Rattle.moves.specs.declared.Found.{Found}
+use Rattle.moves.specs.declared.Plan.{Plan}
+use Rattle.moves.specs.declared.Search.{Search}
 use Rattle.search.specs.Search.{startOf, searchOf}
 use Rattle.search.specs.Run.{fitCell, planSizesHold, plannedSearch}
 use Rattle.records.specs.declared.FitConfig.{FitConfig}

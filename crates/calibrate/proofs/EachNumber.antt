@@ -11,7 +11,7 @@ use Rattle.laws.specs.Choice.{unless}
 use Rattle.laws.proofs.Choices.{if-false}
 use Rattle.slice.specs.declared.SviSlice.{SviSlice}
 use Rattle.slice.specs.Slice.{numberOf}
-use Rattle.search.specs.declared.Search.{Search}
+use Rattle.moves.specs.declared.Search.{Search}
 use Rattle.weights.specs.Weights.{cappedOf}
 use Rattle.records.specs.declared.FitConfig.{FitConfig}
 use Rattle.records.specs.declared.FitAnswer.{FitAnswer}

@@ -17,11 +17,11 @@ use Rattle.slice.specs.declared.KRange.{KRange}
 use Rattle.slice.specs.declared.SviSlice.{SviSlice}
 use Rattle.cell.specs.declared.Limits.{Limits}
 use Rattle.weights.specs.Weights.{scaledOf, cappedOf}
-use Rattle.search.specs.declared.Axis.{Axis}
-use Rattle.search.specs.declared.Plan.{Plan}
+use Rattle.moves.specs.declared.Axis.{Axis}
+use Rattle.moves.specs.declared.Plan.{Plan}
 use Rattle.records.specs.declared.Counts.{Counts}
-use Rattle.search.specs.declared.Found.{Found}
-use Rattle.search.specs.declared.Search.{Search}
+use Rattle.moves.specs.declared.Found.{Found}
+use Rattle.moves.specs.declared.Search.{Search}
 use Rattle.search.specs.Search.{searchOf}
 use Rattle.search.specs.Run.{fitCell}
 use Rattle.records.specs.declared.FitConfig.{FitConfig}

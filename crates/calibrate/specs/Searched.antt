@@ -6,7 +6,7 @@ use mathlib.Core.List.{List}
 use Prim.Native.Nat.{_≤_}
 use lib.Ieee.{Float}
 use Rattle.records.specs.declared.Counts.{Counts}
-use Rattle.search.specs.declared.Search.{Search}
+use Rattle.moves.specs.declared.Search.{Search}
 use Rattle.search.specs.Promised.{Promised}
 use Rattle.search.specs.Run.{fitCell, fitFace}
 use Rattle.records.specs.declared.FitConfig.{FitConfig}

@@ -11,7 +11,7 @@ use lib.Ieee.{Float}
 use Rattle.laws.specs.Some.{Some}
 use Rattle.laws.specs.Floats.{+0}
 use Rattle.slice.specs.declared.SviSlice.{SviSlice}
-use Rattle.search.specs.declared.Plan.{Plan}
+use Rattle.moves.specs.declared.Plan.{Plan}
 use Rattle.search.specs.Search.{CellFn, cellAt, afterPasses}
 use Rattle.search.specs.Run.{fitCell}
 use Rattle.records.specs.declared.FitConfig.{FitConfig}

@@ -4,11 +4,11 @@ ghost use lib.ListN.{length};
 ghost use Rattle.calibrate.specs.End.{acceptedOf, endOf};
 ghost use Rattle.calibrate.specs.Fit.{bestEnd, searchEnd};
 use crate::params;
+use moves::Found;
+use moves::Search;
 use records::Counts;
 use records::FitAnswer;
 use records::FitConfig;
-use search::Found;
-use search::Search;
 use slice::KRange;
 use slice::SviSlice;
 

@@ -7,11 +7,11 @@ ghost use mathlib.Core.Path.{_≡_};
 ghost use Rattle.calibrate.specs.Fit.{halfOf, planOf, limitsOf, decidedOf, refusedEarly, cappedAs, Fitted};
 ghost use Rattle.entry.specs.Sized.{Sized};
 use cell::Limits;
+use moves::Axis;
+use moves::Plan;
+use moves::Window;
 use records::FitAnswer;
 use records::FitConfig;
-use search::Axis;
-use search::Plan;
-use search::Window;
 use slice::KRange;
 
 // ---- the search

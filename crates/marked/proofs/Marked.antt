@@ -7,8 +7,8 @@ use Rattle.laws.specs.Floats.{f64, +0, quarter, half, one, two, four}
 use Rattle.roots.specs.Root.{rootOf}
 use Rattle.roots.specs.Hypot.{hypotOf}
 use Rattle.roots.proofs.Marked as roots
-use Rattle.search.proofs.Marked as search
-use Rattle.search.proofs.Marked.{unit-axis}
+use Rattle.moves.proofs.Marked as moves
+use Rattle.moves.proofs.Marked.{unit-axis}
 use Rattle.weights.specs.Weights.{medianOf, cappedOf}
 use Rattle.weights.proofs.Marked as weights
 use Rattle.weights.proofs.Marked.{one-to-four, ones-and, ten}
@@ -55,7 +55,7 @@ marked =
     record {
       m1 = roots.m1;
       m2 = roots.m2;
-      m3 = search.m3;
+      m3 = moves.m3;
       m4 = weights.m4;
       m5 = (weights.m5, weights.m5-none);
       m6 = slice.m6;

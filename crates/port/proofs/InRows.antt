@@ -13,8 +13,8 @@ use Rattle.house.specs.File.{recordsOf}
 use Rattle.house.specs.Repeats.{kept}
 use Rattle.outcome.specs.declared.Outcome.{Outcome}
 use Rattle.outcome.specs.Outcome.{bytesOutcome, residualsFor, cappedFor}
-use Rattle.port.specs.Rows.{readConfig, fitCounts, outcomeCounts, fitValues}
-use Rattle.port.specs.FitRows.{FittedRows, fitUnder, QuotesRows, quotesUnder}
+use Rattle.rows.specs.Rows.{readConfig, fitCounts, fitValues}
+use Rattle.port.specs.FitRows.{FittedRows, fitUnder, outcomeCounts, QuotesRows, quotesUnder}
 
 pub in-rows :
     (tau : Float) (sizes : List ℕ) (reals ks ws ts residuals : List Float) (capped : List ℕ) {c : FitConfig} {a : FitAnswer} {residuals′ : List Float} {capped′ ns : List ℕ} {vs : List Float}

@@ -1,4 +1,2 @@
--- What the function proofs share; and that rows read back.
+-- What the function proofs share.
 pub mod InRows
-pub mod Told
-pub mod RowsReadBack

@@ -1,7 +1,7 @@
 -- The fit, and what quotes as they came in come to, with settings and answer in rows. Definitions only.
 use mathlib.Core.Path.{_≡_}
 use mathlib.Core.Bool.{Bool}
-use mathlib.Core.List.{List}
+use mathlib.Core.List.{List, _∷_}
 use Prim.Native.Nat.{ℕ}
 use lib.ListN.{length}
 use lib.Ieee.{Float}
@@ -13,7 +13,7 @@ use Rattle.house.specs.File.{recordsOf}
 use Rattle.house.specs.Repeats.{kept}
 use Rattle.outcome.specs.declared.Outcome.{Outcome}
 use Rattle.outcome.specs.Outcome.{bytesOutcome, residualsFor, cappedFor}
-use Rattle.port.specs.Rows.{readConfig, fitCounts, outcomeCounts, fitValues}
+use Rattle.rows.specs.Rows.{readConfig, fitCounts, fitValues}
 
 -- the fit under settings in rows, into the room that is lent
 unfoldable pub fitUnder : Float → List ℕ → List Float → List Float → List Float → List Float → List Float → List ℕ → FitAnswer
@@ -29,6 +29,10 @@ pub record FittedRows
   pub counted : counts ≡ fitCounts (fitUnder tau sizes reals ks ws ts residuals capped)
   pub valued : values ≡ fitValues (fitUnder tau sizes reals ks ws ts residuals capped)
   pub marked : active ≡ fitUnder tau sizes reals ks ws ts residuals capped .active
+
+-- read, kept, then the eight counts of the fit
+abbrev pub outcomeCounts : Outcome → List ℕ
+outcomeCounts o = o .read ∷ o .kept ∷ fitCounts (o .fit)
 
 -- what quotes in bytes come to under settings in rows, into the room that is lent
 unfoldable pub quotesUnder : Float → List ℕ → List Float → List ℕ → List Float → List ℕ → Outcome

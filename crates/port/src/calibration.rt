@@ -1,52 +1,15 @@
 // The fit of one slice, from columns or from quotes as they came in, for callers outside. Settings are two rows: sizes and reals.
 ghost use mathlib.Core.Path.{_≡_};
 ghost use Rattle.records.specs.Settings.{defaultsOf};
-ghost use Rattle.port.specs.Rows.{readConfig, sizesRow, realsRow, fitCounts, outcomeCounts, fitValues};
-ghost use Rattle.port.specs.FitRows.{FittedRows, QuotesRows};
+ghost use Rattle.rows.specs.Rows.{sizesRow, realsRow};
+ghost use Rattle.port.specs.FitRows.{outcomeCounts, FittedRows, QuotesRows};
 use outcome::Outcome;
-use records::FitAnswer;
 use records::FitConfig;
-
-// ---- rows
-
-fn read_config(sizes: &[usize; 4], reals: &[f64; 7]) -> FitConfig
-    ensures { λ r. ⌜ r ≡ readConfig (now (sizes .entry)) (now (reals .entry)) ⌝ }
-{
-    FitConfig {
-        grid: sizes[0],
-        refinements: sizes[1],
-        max_recentres: sizes[2],
-        sigma_lo: reals[0],
-        sigma_hi: reals[1],
-        a_min: reals[2],
-        min_observations: sizes[3],
-        max_rmse_vol: reals[3],
-        pivot_tolerance: reals[4],
-        feasibility_tolerance: reals[5],
-        max_weight_ratio: reals[6],
-    }
-}
-
-fn fit_counts(a: FitAnswer) -> [usize; 8]
-    ensures { λ r. ⌜ r ≡ fitCounts a ⌝ }
-{
-    let n = a.counts;
-    [
-        a.observed,
-        a.required,
-        n.passes,
-        n.recentres,
-        n.shrinks,
-        n.cells,
-        n.faces,
-        a.capped,
-    ]
-}
 
 fn outcome_counts(o: Outcome) -> [usize; 10]
     ensures { λ r. ⌜ r ≡ outcomeCounts o ⌝ }
 {
-    let n = fit_counts(o.fit);
+    let n = rows::fits::fit_counts(o.fit);
     [
         o.read,
         o.kept,
@@ -60,30 +23,6 @@ fn outcome_counts(o: Outcome) -> [usize; 10]
         n[7],
     ]
 }
-
-fn fit_values(a: FitAnswer) -> [f64; 14]
-    ensures { λ r. ⌜ r ≡ fitValues a ⌝ }
-{
-    let s = a.slice;
-    [
-        a.rmse_vol,
-        a.max_rmse_vol,
-        s.tau,
-        s.a,
-        s.b,
-        s.rho,
-        s.m,
-        s.sigma,
-        s.k_range.lo,
-        s.k_range.hi,
-        a.objective,
-        a.objective_params,
-        a.lee_margin,
-        a.a_margin,
-    ]
-}
-
-// ---- the exports
 
 // The default settings. sizes: grid, refinements, max_recentres, min_observations; reals: sigma_lo, sigma_hi, a_min, max_rmse_vol, pivot_tolerance, feasibility_tolerance, max_weight_ratio.
 #[no_mangle]
@@ -122,11 +61,11 @@ pub extern "C" fn port_raw_fit_slice(
 ) -> u32
     ensures { λ r. ⌜ FittedRows tau (now (sizes .entry)) (now (reals .entry)) (now (k .entry)) (now (w .entry)) (now (weight .entry)) (now (residuals .entry)) (now (capped .entry)) r (now (residuals .exit)) (now (capped .exit)) (now (counts .exit)) (now (values .exit)) (now (active .exit)) ⌝ }
 {
-    let config = read_config(sizes, reals);
+    let config = rows::fits::read_config(sizes, reals);
     let a = calibrate::fit_slice(tau, config, k, w, weight, residuals, capped);
-    let ns = fit_counts(a);
+    let ns = rows::fits::fit_counts(a);
     *counts = ns;
-    let vs = fit_values(a);
+    let vs = rows::fits::fit_values(a);
     *values = vs;
     let marks = a.active;
     *active = marks;
@@ -149,12 +88,12 @@ pub extern "C" fn port_raw_fit_quotes(
 ) -> u32
     ensures { λ r. ⌜ QuotesRows tau (now (sizes .entry)) (now (reals .entry)) (now (quotes .entry)) (now (residuals .entry)) (now (capped .entry)) r (now (residuals .exit)) (now (capped .exit)) (now (counts .exit)) (now (values .exit)) (now (active .exit)) ⌝ }
 {
-    let config = read_config(sizes, reals);
+    let config = rows::fits::read_config(sizes, reals);
     let o = outcome::of_quotes(tau, config, quotes, residuals, capped);
     let ns = outcome_counts(o);
     *counts = ns;
     let a = o.fit;
-    let vs = fit_values(a);
+    let vs = rows::fits::fit_values(a);
     *values = vs;
     let marks = a.active;
     *active = marks;

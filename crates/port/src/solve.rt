@@ -3,9 +3,8 @@ ghost use mathlib.Core.Path.{_≡_};
 ghost use mathlib.Core.List.{[], _∷_};
 ghost use Rattle.solver.specs.Solve.{solveOf};
 ghost use Rattle.cell.specs.Cell.{innerOf};
-ghost use Rattle.port.specs.Flag.{flag};
-ghost use Rattle.port.specs.Rows.{readLimits, cellValues};
-use cell::Limits;
+ghost use Rattle.rows.specs.Flag.{flag};
+ghost use Rattle.rows.specs.Rows.{readLimits, cellValues};
 
 // m x = rhs in n unknowns: 1 where there is a solution, else 0. m: six rows of six; x: the six numbers of the solution.
 #[no_mangle]
@@ -27,17 +26,6 @@ pub extern "C" fn port_raw_solve(
     bits::pick_number(s.ok, 1, 0)
 }
 
-fn read_limits(row: &[f64; 4]) -> Limits
-    ensures { λ r. ⌜ r ≡ readLimits (now (row .entry)) ⌝ }
-{
-    Limits {
-        a_min: row[0],
-        a_max: row[1],
-        pivot_tolerance: row[2],
-        feasibility_tolerance: row[3],
-    }
-}
-
 // The cell (m, sigma) over observations k, w and scaled weights: 1 where a face qualifies, else 0.
 // limits: a_min, a_max, pivot_tolerance, feasibility_tolerance; faces: how many were tried; values: the objective, then x; active: the seven constraints.
 #[no_mangle]
@@ -57,7 +45,7 @@ pub extern "C" fn port_raw_cell(
     ensures { λ r. ⌜ now (values .exit) ≡ cellValues (innerOf (now (k .entry)) (now (w .entry)) (now (scaled .entry)) (readLimits (now (limits .entry))) m sigma) ⌝ }
     ensures { λ r. ⌜ now (active .exit) ≡ innerOf (now (k .entry)) (now (w .entry)) (now (scaled .entry)) (readLimits (now (limits .entry))) m sigma .active ⌝ }
 {
-    let c = cell::inner(k, w, scaled, read_limits(limits), m, sigma);
+    let c = cell::inner(k, w, scaled, rows::fits::read_limits(limits), m, sigma);
     *faces = [c.faces];
     let x = c.x;
     *values = [c.objective, x[0], x[1], x[2]];

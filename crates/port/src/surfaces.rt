@@ -5,8 +5,8 @@ ghost use Rattle.point.specs.Point.{pointNumber, totalOf};
 ghost use Rattle.surface.specs.Runs.{runOf, checkRun};
 ghost use Rattle.diagnostics.specs.Tally.{pointAt, recordedOf, isClean};
 ghost use Rattle.diagnostics.specs.Diagnostics.{reportClean};
-ghost use Rattle.port.specs.Answers.{totalAnswer, bracketFor, regionFor, totalFor, coversFor, diagnosedFor, roomFor, totalRow, placesRow, diagnosedCounts, diagnosedWorst, checkAt, reportAt};
-ghost use Rattle.port.specs.Flag.{flag};
+ghost use Rattle.rows.specs.Answers.{totalAnswer, bracketFor, regionFor, totalFor, coversFor, diagnosedFor, roomFor, totalRow, placesRow, diagnosedCounts, diagnosedWorst, checkAt, reportAt};
+ghost use Rattle.rows.specs.Flag.{flag};
 use diagnostics::report::SurfaceDiagnostics;
 use diagnostics::tally::Check;
 use diagnostics::tally::DiagnosticPoint;
@@ -32,7 +32,7 @@ pub extern "C" fn port_raw_total(
 ) -> u32
     ensures { λ r. ⌜ (r ≡ totalAnswer (totalOf w «w_k» «w_kk» «w_tau») .number) × (now (total .exit) ≡ totalRow (totalAnswer (totalOf w «w_k» «w_kk» «w_tau»))) ⌝ }
 {
-    crate::answers::write_total(TotalVariance::new(w, w_k, w_kk, w_tau), total)
+    rows::answers::write_total(TotalVariance::new(w, w_k, w_kk, w_tau), total)
 }
 
 // ---- a lent run of slices
@@ -56,7 +56,7 @@ pub extern "C" fn port_raw_bracket(
 ) -> u32
     ensures { λ r. ⌜ (r ≡ bracketFor (runOf (now (slices .entry))) policy k tau .number) × (now (places .exit) ≡ placesRow (bracketFor (runOf (now (slices .entry))) policy k tau)) × (now (x .exit) ≡ bracketFor (runOf (now (slices .entry))) policy k tau .x ∷ []) ⌝ }
 {
-    crate::answers::bracket_of(surface::copied(slices), policy, k, tau, places, x)
+    rows::answers::bracket_of(surface::copied(slices), policy, k, tau, places, x)
 }
 
 #[no_mangle]
@@ -69,7 +69,7 @@ pub extern "C" fn port_raw_region(
 ) -> u32
     ensures { λ r. ⌜ (r ≡ regionFor (runOf (now (slices .entry))) policy k tau .number) × (now (calibrated .exit) ≡ flag (regionFor (runOf (now (slices .entry))) policy k tau .calibrated) ∷ []) ⌝ }
 {
-    crate::answers::region_of(surface::copied(slices), policy, k, tau, calibrated)
+    rows::answers::region_of(surface::copied(slices), policy, k, tau, calibrated)
 }
 
 #[no_mangle]
@@ -82,7 +82,7 @@ pub extern "C" fn port_raw_total_variance(
 ) -> u32
     ensures { λ r. ⌜ (r ≡ totalFor (runOf (now (slices .entry))) policy k tau .number) × (now (total .exit) ≡ totalRow (totalFor (runOf (now (slices .entry))) policy k tau)) ⌝ }
 {
-    crate::answers::total_of(surface::copied(slices), policy, k, tau, total)
+    rows::answers::total_of(surface::copied(slices), policy, k, tau, total)
 }
 
 #[no_mangle]
@@ -94,7 +94,7 @@ pub extern "C" fn port_raw_covers_nodes(
 ) -> u32
     ensures { λ r. ⌜ (r ≡ coversFor (runOf (now (slices .entry))) (now (ks .entry)) (now (taus .entry)) .number) × (now (all .exit) ≡ flag (coversFor (runOf (now (slices .entry))) (now (ks .entry)) (now (taus .entry)) .all) ∷ []) ⌝ }
 {
-    crate::answers::covers_of(surface::copied(slices), ks, taus, all)
+    rows::answers::covers_of(surface::copied(slices), ks, taus, all)
 }
 
 // ---- diagnostics
@@ -114,7 +114,7 @@ pub extern "C" fn port_raw_diagnose(
 ) -> u32
     ensures { λ r. ⌜ (r ≡ diagnosedFor (runOf (now (slices .entry))) policy (now (ks .entry)) (now (taus .entry)) «butterfly_tolerance» «calendar_tolerance» (now (room .entry)) .number) × (now (room .exit) ≡ roomFor (runOf (now (slices .entry))) policy (now (ks .entry)) (now (taus .entry)) «butterfly_tolerance» «calendar_tolerance» (now (room .entry))) × (now (counts .exit) ≡ diagnosedCounts (diagnosedFor (runOf (now (slices .entry))) policy (now (ks .entry)) (now (taus .entry)) «butterfly_tolerance» «calendar_tolerance» (now (room .entry)))) × (now (worst .exit) ≡ diagnosedWorst (diagnosedFor (runOf (now (slices .entry))) policy (now (ks .entry)) (now (taus .entry)) «butterfly_tolerance» «calendar_tolerance» (now (room .entry)))) ⌝ }
 {
-    crate::answers::diagnose_of(
+    rows::answers::diagnose_of(
         surface::copied(slices),
         policy,
         ks,
@@ -147,7 +147,7 @@ pub extern "C" fn port_raw_check_clean(counts: &[usize; 3], worst: &[f64; 3]) ->
     ensures { λ r. ⌜ r ≡ flag (isClean (checkAt 0 (now (counts .entry)) (now (worst .entry)))) ⌝ }
 {
     bits::pick_number(
-        Check::is_clean(crate::answers::check_at(counts, worst)),
+        Check::is_clean(rows::answers::check_at(counts, worst)),
         1,
         0,
     )
@@ -159,7 +159,7 @@ pub extern "C" fn port_raw_report_clean(counts: &[usize; 10], worst: &[f64; 9]) 
     ensures { λ r. ⌜ r ≡ flag (reportClean (reportAt (now (counts .entry)) (now (worst .entry)))) ⌝ }
 {
     bits::pick_number(
-        SurfaceDiagnostics::is_clean(crate::answers::report_at(counts, worst)),
+        SurfaceDiagnostics::is_clean(rows::answers::report_at(counts, worst)),
         1,
         0,
     )

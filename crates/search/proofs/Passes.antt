@@ -14,9 +14,10 @@ use Rattle.laws.proofs.Choices.{cond-ind}
 use Rattle.laws.proofs.Order.{lt-le-trans, lt-or, lt→le}
 use Rattle.cell.specs.declared.Cell.{Cell}
 use Rattle.cell.specs.Cell.{noCell}
-use Rattle.search.specs.declared.Window.{Window}
-use Rattle.search.specs.declared.PassBest.{PassBest}
-use Rattle.search.specs.Search.{CellFn, better, consider, noBest, gridRow, passOf, cellAt, improves}
+use Rattle.moves.specs.declared.Window.{Window}
+use Rattle.moves.specs.declared.PassBest.{PassBest}
+use Rattle.moves.specs.Moves.{improves}
+use Rattle.search.specs.Search.{CellFn, better, consider, noBest, gridRow, passOf, cellAt}
 use Rattle.search.specs.Promised.{sum}
 use Rattle.search.proofs.Sums.{sum-none, sum-next}
 

@@ -8,8 +8,8 @@ use lib.Dec.{leb}
 use borrow.Author.Tests.{leb-true}
 use Rattle.laws.proofs.Choices.{both}
 use lib.Ieee.{Float}
-use Rattle.search.specs.declared.Plan.{Plan}
-use Rattle.search.specs.declared.Search.{Search}
+use Rattle.moves.specs.declared.Plan.{Plan}
+use Rattle.moves.specs.declared.Search.{Search}
 use Rattle.search.specs.Search.{CellFn, afterPasses, limitOf}
 use Rattle.search.specs.Promised.{sum, cellOfPass}
 use Rattle.search.specs.Run.{planSizesHold}

@@ -1,38 +1,27 @@
 -- The states of the search, pass after pass: what each pass adds to the counts, and which passes are made. Assumes nothing.
 use mathlib.Core.Path.{_≡_, refl, sym, ap, subst, _∙_}
-use mathlib.Core.Bool.{Bool, true, false, _&&_, _||_, cond}
+use mathlib.Core.Bool.{Bool, true, false, cond}
 use Prim.Native.Nat.{ℕ, zero, suc, _+_, _-_, _*_, _≤_, _<_}
 use native.Mathlib.Omega.{arith}
 use native.Mathlib.Numerals.{add-one}
 use native.Mathlib.Nat.{zero-mul, add-mul, one-mul, not-suc-le-zero, eq-or-lt-of-le}
 use mathlib.Core.Logic.{⊎-elim}
-use lib.Dec.{ltb}
 use lib.Ieee.{lt}
-use borrow.Author.Tests.{ltb-true}
 use Rattle.laws.specs.Loop.{turns}
 use Rattle.laws.proofs.Loops.{turns-last, below-next}
-use Rattle.laws.proofs.Choices.{cond-ind, cond-test, both, false-true}
-use Rattle.search.specs.declared.PassBest.{PassBest}
+use Rattle.laws.proofs.Choices.{cond-ind, cond-test, false-true}
+use Rattle.moves.specs.declared.PassBest.{PassBest}
 use Rattle.records.specs.declared.Counts.{Counts}
-use Rattle.search.specs.declared.Found.{Found}
-use Rattle.search.specs.declared.Place.{Place}
-use Rattle.search.specs.declared.Plan.{Plan}
-use Rattle.search.specs.declared.Search.{Search}
-use Rattle.search.specs.Search.{CellFn, passOf, placeOf, foundOf, improves, width, recentred, narrowed, shrunk, stopped, canRecentre, canShrink, movedOf, countedOf, searchRefused, stepOf, startOf, passWhileGoing, afterPasses}
+use Rattle.moves.specs.declared.Found.{Found}
+use Rattle.moves.specs.declared.Place.{Place}
+use Rattle.moves.specs.declared.Plan.{Plan}
+use Rattle.moves.specs.declared.Search.{Search}
+use Rattle.moves.specs.Moves.{width, recentred, narrowed, shrunk, stopped, canRecentre, canShrink, movedOf}
+use Rattle.search.specs.Search.{CellFn, passOf, countedOf, searchRefused, stepOf, startOf, passWhileGoing, afterPasses}
 use Rattle.search.specs.Promised.{sum}
+use Rattle.moves.proofs.Cases.{moved-ind, recentre-left, shrink-left}
 use Rattle.search.proofs.Sums.{sum-none, sum-next}
 use Rattle.search.proofs.Passes.{facesAt, rows-counts}
-
--- ---- the cases of a move and of a pass
-
-pub moved-ind :
-    (P : Search → Type 0) (p : Plan) (s : Search) (n : Counts) (b : PassBest) →
-    (let a = placeOf p (s .window) b in
-    let o = foundOf b a (s .found) in
-    (canRecentre p s n b a ≡ true → P (recentred p s n a o)) → (canShrink p s n ≡ true → P (shrunk p s n o)) → P (stopped s n o) → P (movedOf p s n b))
-unfolding movedOf
-moved-ind P p s n b x y z =
-    cond-test P (canRecentre p s n b (placeOf p (s .window) b)) x (λ e. cond-test P (canShrink p s n) y (λ e. z))
 
 -- ---- the counts after a pass
 
@@ -46,18 +35,15 @@ record Kept (p : Plan) (n c : Counts) : Type 0 where
 
 module _ (p : Plan) (s : Search) (n : Counts) (r : n .recentres ≤ p .«max_recentres») (h : n .shrinks ≤ p .refinements) where
   recentred-kept : (b : PassBest) (a : Place) (o : Found) → canRecentre p s n b a ≡ true → Kept p n (recentred p s n a o .counts)
-  unfolding recentred canRecentre
+  unfolding recentred
   recentred-kept b a o e =
-      let x = both (a .«m_edge» || a .«s_edge») (improves (b .cell) (s .found .cell) && ltb (n .recentres) (p .«max_recentres»)) e in
-      let y = both (improves (b .cell) (s .found .cell)) (ltb (n .recentres) (p .«max_recentres»)) (x .1) in
-      let l = ltb-true (n .recentres) (p .«max_recentres») (y .1) in
+      let l = recentre-left p s n b a e in
       record { passes = refl; cells = refl; faces = refl; recentres = omega (arith, l); shrinks = h }
 
   shrunk-kept : (o : Found) → canShrink p s n ≡ true → Kept p n (shrunk p s n o .counts)
-  unfolding shrunk canShrink
+  unfolding shrunk
   shrunk-kept o e =
-      let x = both (ltb (n .shrinks) (p .refinements)) _ e in
-      let l = ltb-true (n .shrinks) (p .refinements) (x .0) in
+      let l = shrink-left p s n e in
       record {
         passes = refl;
         cells = refl;

@@ -2,8 +2,8 @@
 -- docs/METHOD.md, 'The search over m and ln sigma'.
 use lib.Dec.{T}
 use lib.Ieee.{lt}
-use Rattle.search.specs.declared.Axis.{Axis}
-use Rattle.search.specs.declared.Window.{Window}
+use Rattle.moves.specs.declared.Axis.{Axis}
+use Rattle.moves.specs.declared.Window.{Window}
 
 -- the axis a does not begin below the axis d, nor end above it
 pub record Within (d a : Axis) : Type 0 where

@@ -1,4 +1,3 @@
-pub mod Axis
 pub mod Search
 pub mod Promised
 pub mod Inside

@@ -12,9 +12,10 @@ use Rattle.cell.specs.declared.Cell.{Cell}
 use Rattle.cell.specs.declared.Tried.{Tried}
 use Rattle.cell.specs.Cell.{cellFrom}
 use Rattle.cell.specs.Choice.{Beats, First}
-use Rattle.search.specs.declared.Plan.{Plan}
-use Rattle.search.specs.declared.Search.{Search}
-use Rattle.search.specs.Search.{CellFn, axisPoint, cellAt, anyEdge, afterPasses, limitOf}
+use Rattle.moves.specs.declared.Plan.{Plan}
+use Rattle.moves.specs.declared.Search.{Search}
+use Rattle.moves.specs.Moves.{axisPoint, anyEdge}
+use Rattle.search.specs.Search.{CellFn, cellAt, afterPasses, limitOf}
 
 -- ---- cells that are chosen from faces
 

@@ -1,7 +1,7 @@
 -- What one pass of the code asks for, so that no count wraps. No promise rests on it: the public functions have no such condition.
 use Prim.Native.Nat.{_≤_}
-use Rattle.search.specs.declared.Plan.{Plan}
-use Rattle.search.specs.declared.Search.{Search}
+use Rattle.moves.specs.declared.Plan.{Plan}
+use Rattle.moves.specs.declared.Search.{Search}
 
 pub record Roomy (p : Plan) (s : Search) : Type 0 where
   pub grid : p .n ≤ 255

@@ -9,8 +9,8 @@ use Rattle.exponent.specs.Exp.{expOf}
 use Rattle.cell.specs.declared.Limits.{Limits}
 use Rattle.cell.specs.Cell.{fitModel, innerOf}
 use Rattle.cell.specs.Choice.{faceTried}
-use Rattle.search.specs.declared.Plan.{Plan}
-use Rattle.search.specs.declared.Search.{Search}
+use Rattle.moves.specs.declared.Plan.{Plan}
+use Rattle.moves.specs.declared.Search.{Search}
 use Rattle.search.specs.Search.{CellFn, startOf, searchOf}
 use Rattle.search.specs.Promised.{FaceFn}
 

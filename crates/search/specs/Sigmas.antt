@@ -6,8 +6,8 @@ use lib.Ieee.{Float}
 use Rattle.laws.specs.Floats.{+0}
 use Rattle.exponent.specs.Exp.{expOf}
 use Rattle.laws.specs.Room.{filledOn}
-use Rattle.search.specs.declared.Axis.{Axis}
-use Rattle.search.specs.Search.{axisPoint}
+use Rattle.moves.specs.declared.Axis.{Axis}
+use Rattle.moves.specs.Moves.{axisPoint}
 
 -- at point j of n
 unfoldable pub sigmaAt : Axis → ℕ → ℕ → Float

@@ -7,12 +7,12 @@ ghost use Rattle.cell.specs.Cell.{noCell, innerOf};
 ghost use Rattle.search.specs.Search.{better, consider, gridRow, passOf};
 ghost use Rattle.search.specs.Run.{fitCell};
 ghost use Rattle.search.specs.Sigmas.{sigmaAt, sigmasOf};
-use crate::Axis;
-use crate::PassBest;
-use crate::Window;
-use crate::points;
 use cell::Cell;
 use cell::Limits;
+use moves::Axis;
+use moves::PassBest;
+use moves::Window;
+use moves::points;
 
 // sigma at each point of the axis of ln sigma, once for all rows.
 fn fill_sigmas(a: Axis, n: usize, sigmas: &mut [f64; 256])

@@ -1,78 +1,45 @@
-// The outer part of fit_slice: passes over the grid of a window, and the moves of the window between them.
+// The outer part of fit_slice: passes over the grid of a window, and the move of the window after each.
 mod grid;
-mod moves;
-pub mod points;
 
 ghost use mathlib.Core.Path.{_≡_};
 ghost use mathlib.Core.Bool.{true};
-ghost use Rattle.search.specs.Search.{startOf, stepOf, searchOf};
+ghost use Prim.Native.Nat.{_^_, _<_};
+ghost use Rattle.search.specs.Search.{countedOf, searchRefused, startOf, stepOf, searchOf};
 ghost use Rattle.search.specs.Run.{fitCell, planSizesHold, plannedSearch};
 ghost use Rattle.search.specs.Roomy.{Roomy};
-use cell::Cell;
 use cell::Limits;
+use moves::Found;
+use moves::PassBest;
+use moves::Plan;
+use moves::Search;
 use records::Counts;
 
-// One axis of a window.
-#[repr(C)]
-pub struct Axis {
-    pub lo: f64,
-    pub hi: f64,
+fn counted(n: Counts, b: PassBest) -> Counts
+    requires { ⌜ (n .passes < 2 ^ 60) × (n .cells < 2 ^ 60) × (n .faces < 2 ^ 60) × (b .cells < 2 ^ 60) × (b .faces < 2 ^ 60) ⌝ }
+    ensures { λ r. ⌜ r ≡ countedOf n b ⌝ }
+{
+    Counts {
+        passes: n.passes + 1,
+        recentres: n.recentres,
+        shrinks: n.shrinks,
+        cells: n.cells + b.cells,
+        faces: n.faces + b.faces,
+    }
 }
 
-// A window of the domain: m, and ln sigma.
-#[repr(C)]
-pub struct Window {
-    pub m: Axis,
-    pub s: Axis,
-}
-
-// The best cell of a pass so far, with its place, and how many cells and faces the pass has tried.
-pub struct PassBest {
-    pub cell: Cell,
-    pub i: usize,
-    pub j: usize,
-    pub cells: usize,
-    pub faces: usize,
-}
-
-// The best cell of all passes, where it stands, and whether that is an edge of its pass's grid.
-#[repr(C)]
-pub struct Found {
-    pub cell: Cell,
-    pub m: f64,
-    pub ls: f64,
-    pub on_edge: bool,
-}
-
-// Where a pass's best stands, whether that is an edge beyond which the domain goes on, along each axis, and whether it is any edge.
-pub struct Place {
-    pub m: f64,
-    pub ls: f64,
-    pub m_edge: bool,
-    pub s_edge: bool,
-    pub on_any_edge: bool,
-}
-
-// The settings of the search, its domain, and half the domain's width along each axis.
-#[repr(C)]
-pub struct Plan {
-    pub n: usize,
-    pub refinements: usize,
-    pub max_recentres: usize,
-    pub domain: Window,
-    pub hm_max: f64,
-    pub hs_max: f64,
-}
-
-// The state of the search between passes.
-#[repr(C)]
-pub struct Search {
-    pub going: bool,
-    pub refused: bool,
-    pub window: Window,
-    pub smallest: f64,
-    pub found: Found,
-    pub counts: Counts,
+fn refuse(s: Search, n: Counts) -> Search
+    ensures { λ r. ⌜ r ≡ searchRefused s n ⌝ }
+{
+    let window = s.window;
+    let found = s.found;
+    Search {
+        going: false,
+        refused: true,
+        window,
+        smallest: s.smallest,
+        found,
+        counts: n,
+    }
 }
 
 // One pass and the move after it. A pass with no face refuses, whatever was found before.
@@ -81,11 +48,11 @@ fn step(ks: &[f64], ws: &[f64], ts: &[f64], l: Limits, p: Plan, s: Search) -> Se
     ensures { λ r. ⌜ r ≡ stepOf (fitCell (now (ks .entry)) (now (ws .entry)) (now (ts .entry)) l) p s ⌝ }
 {
     let b = grid::pass(ks, ws, ts, l, s.window, p.n);
-    let n = moves::counted(s.counts, b);
+    let n = counted(s.counts, b);
     if b.cell.some {
         return moves::moved(p, s, n, b);
     }
-    moves::refuse(s, n)
+    refuse(s, n)
 }
 
 // The first window is the whole domain.

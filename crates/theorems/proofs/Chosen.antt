@@ -4,13 +4,14 @@ use mathlib.Core.Bool.{Bool, true, false, _||_, cond}
 use Prim.Native.Nat.{ℕ, _+_, _-_, _≤_, _<_}
 use native.Mathlib.Omega.{arith}
 use lib.Dec.{T}
-use Rattle.search.specs.declared.PassBest.{PassBest}
+use Rattle.moves.specs.declared.PassBest.{PassBest}
 use Rattle.records.specs.declared.Counts.{Counts}
-use Rattle.search.specs.declared.Found.{Found}
-use Rattle.search.specs.declared.Place.{Place}
-use Rattle.search.specs.declared.Plan.{Plan}
-use Rattle.search.specs.declared.Search.{Search}
-use Rattle.search.specs.Search.{CellFn, axisPoint, anyEdge, passOf, improves, foundOf, placeOf, movedOf, countedOf, searchRefused, stepOf, startOf, afterPasses}
+use Rattle.moves.specs.declared.Found.{Found}
+use Rattle.moves.specs.declared.Place.{Place}
+use Rattle.moves.specs.declared.Plan.{Plan}
+use Rattle.moves.specs.declared.Search.{Search}
+use Rattle.moves.specs.Moves.{axisPoint, anyEdge, improves, foundOf, placeOf, movedOf}
+use Rattle.search.specs.Search.{CellFn, passOf, countedOf, searchRefused, stepOf, startOf, afterPasses}
 use Rattle.search.proofs.Passes.{Stands, pass-stands}
 use Rattle.search.proofs.Trail.{after-ind, trail, passes-after}
 use Rattle.theorems.proofs.Least.{moved-found}

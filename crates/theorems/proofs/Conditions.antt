@@ -17,7 +17,7 @@ use Rattle.slice.specs.declared.SviSlice.{SviSlice}
 use Rattle.slice.specs.declared.Evaluated.{Evaluated}
 use Rattle.slice.specs.declared.Evaluated.the-variants as evaluated
 use Rattle.slice.specs.Slice.{numberOf, evalRaw}
-use Rattle.search.specs.declared.Plan.{Plan}
+use Rattle.moves.specs.declared.Plan.{Plan}
 use Rattle.search.specs.Search.{CellFn, afterPasses, limitOf}
 use Rattle.search.specs.Run.{fitCell}
 use Rattle.search.proofs.Passes.{pass-stands}

@@ -8,17 +8,19 @@ use lib.Ieee.{Float, le}
 use Rattle.laws.proofs.Choices.{cond-test, cond-ind, false-true}
 use Rattle.laws.proofs.Loops.{below-next}
 use Rattle.cell.specs.declared.Cell.{Cell}
-use Rattle.search.specs.declared.Window.{Window}
-use Rattle.search.specs.declared.PassBest.{PassBest}
+use Rattle.moves.specs.declared.Window.{Window}
+use Rattle.moves.specs.declared.PassBest.{PassBest}
 use Rattle.records.specs.declared.Counts.{Counts}
-use Rattle.search.specs.declared.Found.{Found}
-use Rattle.search.specs.declared.Place.{Place}
-use Rattle.search.specs.declared.Plan.{Plan}
-use Rattle.search.specs.declared.Search.{Search}
-use Rattle.search.specs.Search.{CellFn, passOf, placeOf, foundOf, improves, recentred, shrunk, stopped, movedOf, countedOf, searchRefused, stepOf, startOf, afterPasses}
+use Rattle.moves.specs.declared.Found.{Found}
+use Rattle.moves.specs.declared.Place.{Place}
+use Rattle.moves.specs.declared.Plan.{Plan}
+use Rattle.moves.specs.declared.Search.{Search}
+use Rattle.moves.specs.Moves.{placeOf, foundOf, improves, recentred, shrunk, stopped, movedOf}
+use Rattle.search.specs.Search.{CellFn, passOf, countedOf, searchRefused, stepOf, startOf, afterPasses}
 use Rattle.search.specs.Promised.{cellOfPass}
 use Rattle.search.proofs.Passes.{AsGood, Proper, later-old, later-new, pass-new, pass-of}
-use Rattle.search.proofs.Trail.{moved-ind, after-ind, trail, passes-after}
+use Rattle.moves.proofs.Cases.{moved-ind}
+use Rattle.search.proofs.Trail.{after-ind, trail, passes-after}
 
 T-is : (b : Bool) → T b → b ≡ true
 T-is true h = refl

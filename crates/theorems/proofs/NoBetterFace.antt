@@ -10,9 +10,10 @@ use Rattle.laws.proofs.Floats.{finite-no-nan}
 use Rattle.laws.proofs.Order.{lt-or, lt-le-trans}
 use Rattle.cell.specs.declared.Cell.{Cell}
 use Rattle.cell.specs.Choice.{Beats}
-use Rattle.search.specs.declared.Plan.{Plan}
-use Rattle.search.specs.declared.Search.{Search}
-use Rattle.search.specs.Search.{CellFn, axisPoint, passOf, afterPasses, limitOf, searchOf}
+use Rattle.moves.specs.declared.Plan.{Plan}
+use Rattle.moves.specs.declared.Search.{Search}
+use Rattle.moves.specs.Moves.{axisPoint}
+use Rattle.search.specs.Search.{CellFn, passOf, afterPasses, limitOf, searchOf}
 use Rattle.search.specs.Promised.{FaceFn, ChosenFrom, cellOfPass, faceOfPass, Qualifies, Yields, ChosenFace, Promised}
 use Rattle.search.proofs.Passes.{AsGood, Proper, pass-stands}
 use Rattle.search.proofs.Trail.{trail, some-pass}

@@ -12,7 +12,7 @@ use Rattle.laws.proofs.Choices.{cond-ind, cond-test, false-true}
 use Rattle.slice.specs.declared.SviSlice.{SviSlice}
 use Rattle.slice.specs.Slice.{numberOf}
 use Rattle.cell.specs.Cell.{inRange}
-use Rattle.search.specs.declared.Search.{Search}
+use Rattle.moves.specs.declared.Search.{Search}
 use Rattle.search.specs.Promised.{Promised}
 use Rattle.search.specs.Run.{fitCell, fitFace}
 use Rattle.search.proofs.FitCells.{fit-chosen}

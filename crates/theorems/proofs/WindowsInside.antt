@@ -7,12 +7,14 @@ use lib.Ieee.{Float, lt, ne}
 use Rattle.laws.specs.Floats.{minOf, maxOf}
 use Rattle.laws.proofs.Choices.{cond-ind}
 use Rattle.laws.proofs.Order.{lt-not-self}
-use Rattle.search.specs.declared.Axis.{Axis}
-use Rattle.search.specs.declared.Plan.{Plan}
-use Rattle.search.specs.declared.Search.{Search}
-use Rattle.search.specs.Search.{CellFn, around, passOf, recentred, narrowed, shrunk, stopped, countedOf, searchRefused, stepOf, startOf, afterPasses}
+use Rattle.moves.specs.declared.Axis.{Axis}
+use Rattle.moves.specs.declared.Plan.{Plan}
+use Rattle.moves.specs.declared.Search.{Search}
+use Rattle.moves.specs.Moves.{around, recentred, narrowed, shrunk, stopped}
+use Rattle.search.specs.Search.{CellFn, passOf, countedOf, searchRefused, stepOf, startOf, afterPasses}
 use Rattle.search.specs.Inside.{Within, Inside}
-use Rattle.search.proofs.Trail.{moved-ind, after-ind}
+use Rattle.moves.proofs.Cases.{moved-ind}
+use Rattle.search.proofs.Trail.{after-ind}
 
 -- the larger of two is not below the second
 max-above : (x y : Float) → T (lt (maxOf x y) y) → ⊥

@@ -14,10 +14,12 @@ pub mod SettledCell
 pub mod SettledWeights
 pub mod SettledEntry
 pub mod SettledJudge
+pub mod SettledMoves
 pub mod SettledSearch
 pub mod SettledCalibrate
 pub mod SettledHouse
 pub mod SettledOutcome
 pub mod SettledText
 pub mod SettledRun
+pub mod SettledRows
 pub mod SettledPort

@@ -9,14 +9,14 @@ use Rattle.exponent.specs.Ln.{lnOf}
 use Rattle.laws.proofs.Choices.{settled}
 use Rattle.point.specs.Point.{pointNumber, totalOf}
 use Rattle.port.specs.Abi.{abiNumber}
-use Rattle.port.specs.Answers.{bracketFor, checkAt, coversFor, diagnosedCounts, diagnosedFor, diagnosedWorst, placesRow, regionFor, reportAt, roomFor, totalAnswer, totalFor, totalRow}
 use Rattle.port.specs.FitRows.{FittedRows, QuotesRows}
-use Rattle.port.specs.Flag.{flag}
-use Rattle.port.specs.Rows.{cellValues, rangeRow, readLimits, readRange, readSlice, realsRow, sizesRow, sliceRow, valuesRow}
-use Rattle.port.specs.Slices.{levelAnswer, rangeAnswer, sliceAnswer, valuesAnswer}
 use Rattle.records.specs.Settings.{defaultsOf}
 use Rattle.roots.specs.Hypot.{hypotOf}
 use Rattle.roots.specs.Root.{rootOf}
+use Rattle.rows.specs.Answers.{bracketFor, checkAt, coversFor, diagnosedCounts, diagnosedFor, diagnosedWorst, placesRow, regionFor, reportAt, roomFor, totalAnswer, totalFor, totalRow}
+use Rattle.rows.specs.Flag.{flag}
+use Rattle.rows.specs.Rows.{cellValues, rangeRow, readLimits, readRange, readSlice, realsRow, sizesRow, sliceRow, valuesRow}
+use Rattle.rows.specs.Slices.{levelAnswer, rangeAnswer, sliceAnswer, valuesAnswer}
 use Rattle.run.specs.Answer.{answerOf}
 use Rattle.slice.specs.Slice.{evalOf, holdsK, leeSlopeOf, madeOf, minimumOf, rangedOf}
 use Rattle.slice.specs.declared.SviSlice.{SviSlice}

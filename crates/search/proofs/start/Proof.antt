@@ -1,7 +1,8 @@
 -- `search::start` meets its contract. Assumes nothing.
 use mathlib.Core.Bool.{true, false}
 use Rattle.laws.specs.Floats.{+0}
-use Rattle.search.specs.Search.{width, startOf}
+use Rattle.moves.specs.Moves.{width}
+use Rattle.search.specs.Search.{startOf}
 use Rattle.records.specs.Answer.{noCounts}
 use Rattle.search.proofs.start.Statement.{statement}
 use Rattle.search.proofs.start.Tie as tie

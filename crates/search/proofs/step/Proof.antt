@@ -1,10 +1,9 @@
 -- `search::step` meets its contract. Assumes nothing.
-use mathlib.Core.Path.{_≡_, ap, sym}
+use mathlib.Core.Path.{_≡_, sym}
 use Prim.Native.Nat.{_*_}
 use native.Mathlib.Nat.{le-refl, mul-assoc}
 use Rattle.laws.proofs.Choices.{if-true, if-false}
-use Rattle.records.specs.declared.Counts.{Counts}
-use Rattle.search.specs.Search.{countedOf, passOf, stepOf}
+use Rattle.search.specs.Search.{passOf, stepOf}
 use Rattle.search.specs.Run.{fitCell}
 use Rattle.search.specs.Promised.{sum}
 use Rattle.search.proofs.Sums.{sum-most}
@@ -32,13 +31,6 @@ counted-requires c κs =
     let y : n * (n * 64) ≡ n * n * 64 = sym (mul-assoc n n 64) in
     omega (arith, g .passes, g .cells, g .faces, k .cells, k .faces, m, z, y)
 
-moved-requires : tie.Need-moved-requires
-unfolding countedOf
-moved-requires c κs =
-    let g = c .before .before .before .before .before .before .pre in
-    let e = c .before .counted .ensures in
-    omega (arith, g .recentres, g .shrinks, ap (λ (n : Counts). n .recentres) e, ap (λ (n : Counts). n .shrinks) e)
-
 returns : tie.Need-returns
 unfolding stepOf
 returns c = rw (← c .before .before .before .pass .ensures, ← c .before .before .counted .ensures) (if-true _ (c .before .if1 .taken) (c .moved .ensures))
@@ -48,4 +40,4 @@ unfolding stepOf
 returns-2 c = rw (← c .before .before .before .pass .ensures, ← c .before .before .counted .ensures) (if-false _ (c .before .if1 .left) (c .refuse .ensures))
 
 pub step-spec : {M : Type 1} → statement M
-step-spec = tie.close (tie.spec pass-requires counted-requires moved-requires returns (λ c κs. tt) returns-2)
+step-spec = tie.close (tie.spec pass-requires counted-requires (λ c κs. tt) returns (λ c κs. tt) returns-2)

@@ -2,9 +2,9 @@
 use mathlib.Core.Path.{_≡_, ap, _∙_}
 use Rattle.slice.specs.declared.SviSlice.{SviSlice}
 use Rattle.slice.specs.Slice.{evalOf}
-use Rattle.port.specs.Slices.{valuesAnswer}
-use Rattle.port.specs.Rows.{valuesRow}
-use Rattle.port.specs.declared.slices.ValuesAnswer.{ValuesAnswer}
+use Rattle.rows.specs.Slices.{valuesAnswer}
+use Rattle.rows.specs.Rows.{valuesRow}
+use Rattle.rows.specs.declared.slices.ValuesAnswer.{ValuesAnswer}
 use borrow.Author.Needs.{needs}
 use Rattle.port.proofs.slices.port_raw_eval.Statement.{statement}
 use Rattle.port.proofs.slices.port_raw_eval.Tie as tie

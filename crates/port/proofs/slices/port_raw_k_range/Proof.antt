@@ -1,8 +1,8 @@
 -- `port::slices::port_raw_k_range` meets its contract. Assumes nothing.
 use mathlib.Core.Path.{_≡_, ap, _∙_}
-use Rattle.port.specs.Slices.{rangeAnswer}
-use Rattle.port.specs.Rows.{rangeRow}
-use Rattle.port.specs.declared.slices.RangeAnswer.{RangeAnswer}
+use Rattle.rows.specs.Slices.{rangeAnswer}
+use Rattle.rows.specs.Rows.{rangeRow}
+use Rattle.rows.specs.declared.slices.RangeAnswer.{RangeAnswer}
 use borrow.Author.Needs.{needs}
 use Rattle.port.proofs.slices.port_raw_k_range.Statement.{statement}
 use Rattle.port.proofs.slices.port_raw_k_range.Tie as tie

@@ -2,9 +2,9 @@
 use mathlib.Core.Path.{_≡_, ap, _∙_}
 use Rattle.slice.specs.declared.KRange.{KRange}
 use Rattle.slice.specs.Slice.{madeOf}
-use Rattle.port.specs.Slices.{sliceAnswer}
-use Rattle.port.specs.Rows.{sliceRow}
-use Rattle.port.specs.declared.slices.SliceAnswer.{SliceAnswer}
+use Rattle.rows.specs.Slices.{sliceAnswer}
+use Rattle.rows.specs.Rows.{sliceRow}
+use Rattle.rows.specs.declared.slices.SliceAnswer.{SliceAnswer}
 use borrow.Author.Needs.{needs}
 use Rattle.port.proofs.slices.port_raw_slice.Statement.{statement}
 use Rattle.port.proofs.slices.port_raw_slice.Tie as tie

@@ -1,7 +1,7 @@
 -- `port::surfaces::port_raw_check_clean` meets its contract. Assumes nothing.
 use mathlib.Core.Path.{ap, _∙_}
 use Rattle.diagnostics.specs.Tally.{isClean}
-use Rattle.port.specs.Flag.{flag}
+use Rattle.rows.specs.Flag.{flag}
 use borrow.Author.Needs.{needs}
 use Rattle.port.proofs.surfaces.port_raw_check_clean.Statement.{statement}
 use Rattle.port.proofs.surfaces.port_raw_check_clean.Tie as tie

@@ -1,7 +1,7 @@
 -- `port::surfaces::port_raw_total` meets its contract. Assumes nothing.
 use mathlib.Core.Path.{_≡_, ap, _∙_}
-use Rattle.port.specs.Answers.{totalAnswer, totalRow}
-use Rattle.port.specs.declared.answers.TotalAnswer.{TotalAnswer}
+use Rattle.rows.specs.Answers.{totalAnswer, totalRow}
+use Rattle.rows.specs.declared.answers.TotalAnswer.{TotalAnswer}
 use borrow.Author.Needs.{needs}
 use Rattle.port.proofs.surfaces.port_raw_total.Statement.{statement}
 use Rattle.port.proofs.surfaces.port_raw_total.Tie as tie

@@ -6,7 +6,7 @@ use Prim.Native.Nat.{_-_, _*_, _≤_}
 use lib.ListN.{length, length-replicate}
 use Rattle.laws.specs.Floats.{+0}
 use Rattle.laws.specs.Loop.{for}
-use Rattle.search.specs.declared.PassBest.{PassBest}
+use Rattle.moves.specs.declared.PassBest.{PassBest}
 use Rattle.search.specs.Search.{noBest, gridRow, passOf}
 use Rattle.search.specs.Run.{fitCell}
 use Rattle.search.specs.Sigmas.{sigmasOf}

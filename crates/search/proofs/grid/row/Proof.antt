@@ -9,11 +9,12 @@ use Rattle.cell.specs.declared.Cell.{Cell}
 use Rattle.cell.specs.declared.Limits.{Limits}
 use Rattle.cell.specs.Cell.{innerOf}
 use Rattle.laws.proofs.Rooms.{filled-at}
-use Rattle.search.specs.declared.Window.{Window}
-use Rattle.search.specs.declared.PassBest.{PassBest}
+use Rattle.moves.specs.declared.Window.{Window}
+use Rattle.moves.specs.declared.PassBest.{PassBest}
 use Rattle.search.specs.Sigmas.{sigmaAt, sigmasOf}
 use Rattle.laws.specs.Loop.{for}
-use Rattle.search.specs.Search.{axisPoint, consider, cellAt, gridRow}
+use Rattle.moves.specs.Moves.{axisPoint}
+use Rattle.search.specs.Search.{consider, cellAt, gridRow}
 use Rattle.search.specs.Run.{fitCell}
 use Rattle.search.specs.Promised.{sum}
 use Rattle.search.proofs.Sums.{sum-most}

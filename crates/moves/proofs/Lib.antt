@@ -1,0 +1,3 @@
+mod Windows
+pub mod Cases
+pub mod Marked

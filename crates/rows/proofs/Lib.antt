@@ -1,0 +1,3 @@
+-- What the function proofs share; and that rows read back.
+pub mod Told
+pub mod RowsReadBack

@@ -1,0 +1,4 @@
+pub mod Flag
+pub mod Slices
+pub mod Rows
+pub mod Answers
