@@ -18,7 +18,7 @@ use Rattle.judge.specs.Judge.{sumsOf, paramsHold, rmseOf, rmseHolds}
 use Rattle.records.specs.declared.Counts.{Counts}
 use Rattle.records.specs.declared.FitConfig.{FitConfig}
 use Rattle.records.specs.declared.FitAnswer.{FitAnswer}
-use Rattle.records.specs.Answer.{refusedWith}
+use Rattle.records.specs.Answer.{refusedWith, refusedAfter}
 
 -- ---- the active set: the face's constraints, and any other at its bound within the tolerance
 
@@ -66,10 +66,6 @@ sliceOf tau range active x m sigma «a_min» «a_max» =
     }
 
 -- ---- the answer, from the best cell and where it stands
-
--- a refusal after the search that carries its counts, and else zeros
-abbrev pub refusedAfter : ℕ → Counts → FitAnswer
-refusedAfter number counts = refusedWith number 0 0 +0 +0 counts
 
 unfoldable pub acceptedOf : FitConfig → Counts → Float → List Bool → SviSlice → Float → Float → FitAnswer
 acceptedOf c counts objective active s params rmse =

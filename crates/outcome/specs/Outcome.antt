@@ -6,13 +6,12 @@ use lib.Dec.{eqb}
 use lib.ListN.{length}
 use lib.Ieee.{Float}
 use Rattle.laws.specs.Choice.{unless, refusing}
-use Rattle.laws.specs.Floats.{+0}
 use Rattle.slice.specs.declared.SviSlice.{SviSlice}
 use Rattle.weights.specs.Weights.{cappedOf}
 use Rattle.records.specs.declared.FitConfig.{FitConfig}
 use Rattle.records.specs.declared.FitAnswer.{FitAnswer}
 use Rattle.records.specs.Settings.{defaultsOf}
-use Rattle.records.specs.Answer.{noCounts, refusedWith}
+use Rattle.records.specs.Answer.{noCounts, refusedAfter}
 use Rattle.calibrate.specs.Fit.{fitOf, residualsOf}
 use Rattle.house.specs.declared.House.{House}
 use Rattle.house.specs.declared.House.the-variants.{Malformed, File}
@@ -29,7 +28,7 @@ outcomeWith read kept fit = record { read = read; kept = kept; fit = fit }
 
 -- a refusal before repeats are dropped: zeros but for its number, and as many kept as came in
 abbrev pub refusedAt : ℕ → ℕ → Outcome
-refusedAt number read = outcomeWith read read (refusedWith number 0 0 +0 +0 noCounts)
+refusedAt number read = outcomeWith read read (refusedAfter number noCounts)
 
 -- the fit of quotes, as columns
 abbrev pub fitFor : Float → FitConfig → List Quote → ℕ → ℕ → FitAnswer

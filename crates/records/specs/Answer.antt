@@ -30,3 +30,7 @@ refusedWith number observed required rmse most counts =
       counts = counts;
       capped = 0;
     }
+
+-- a refusal that carries the counts of the passes before it, and else zeros
+abbrev pub refusedAfter : ℕ → Counts → FitAnswer
+refusedAfter number counts = refusedWith number 0 0 +0 +0 counts

@@ -17,9 +17,9 @@ use Rattle.records.specs.declared.FitConfig.{FitConfig}
 use Rattle.records.specs.declared.FitAnswer.{FitAnswer}
 use Rattle.records.specs.Settings.{settingsHold, sizesHold}
 use Rattle.entry.specs.Entry.{rangeOf, lengthsHold, columnsPass, spanOf, checksNumber, entryNumber}
-use Rattle.records.specs.Answer.{noCounts, refusedWith}
+use Rattle.records.specs.Answer.{noCounts, refusedWith, refusedAfter}
 use Rattle.judge.specs.Judge.{sumsOf, paramsHold, rmseHolds}
-use Rattle.calibrate.specs.End.{refusedAfter, acceptedOf, endOf}
+use Rattle.calibrate.specs.End.{acceptedOf, endOf}
 use Rattle.calibrate.specs.Fit.{aMaxFor, scaledFor, searchFor, sliceFrom, bestEnd, searchEnd, decidedOf, refusedEarly, cappedAs, fitOf}
 use Rattle.calibrate.specs.When.{refusalAnswer}
 use Rattle.judge.specs.When.{rmseAt}

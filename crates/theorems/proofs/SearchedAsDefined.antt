@@ -24,8 +24,8 @@ use Rattle.records.specs.declared.FitAnswer.{FitAnswer}
 use Rattle.judge.specs.declared.Sums.{Sums}
 use Rattle.entry.specs.Sized.{Sized}
 use Rattle.entry.specs.Entry.{rangeOf, entryNumber}
-use Rattle.records.specs.Answer.{refusedWith}
-use Rattle.calibrate.specs.End.{refusedAfter, acceptedOf, endOf}
+use Rattle.records.specs.Answer.{refusedWith, refusedAfter}
+use Rattle.calibrate.specs.End.{acceptedOf, endOf}
 use Rattle.judge.specs.Judge.{sumsOf, paramsHold, rmseOf, rmseHolds}
 use Rattle.calibrate.specs.Fit.{scaledFor, aMaxFor, limitsFor, planFor, searchFor, activeFrom, sliceFrom, fitSearch, bestEnd, searchEnd, decidedOf, cappedAs, fitOf}
 use Rattle.calibrate.specs.Searched.{FromFound, Searched}
