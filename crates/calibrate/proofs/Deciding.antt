@@ -26,27 +26,27 @@ use Rattle.judge.specs.Judge.{highestOf}
 use Rattle.calibrate.specs.Fit.{halfOf, planOf, limitsOf, fitSearch, bestEnd, searchEnd, decidedOf}
 use Rattle.entry.specs.Sized.{Sized}
 
-module _ (tau : Float) (c : FitConfig) (ks ws ts : List Float) (s : Sized c ks ws ts) where
+module _ (tau : Float) (c : FitConfig) (ks ws weights : List Float) (s : Sized c ks ws weights) where
   -- within the sizes the search is run
   sizes-hold : (range : KRange) → planSizesHold (planOf c range) ≡ true
   unfolding planSizesHold planOf
   sizes-hold range = rw (le-leb (c .grid) 255 (s .grid), le-leb (c .refinements) 1000 (s .refinements), le-leb (c .«max_recentres») 1000 (s .recentres))
 
-  run-is : (l : Limits) (range : KRange) → plannedSearch ks ws ts l (planOf c range) ≡ searchOf (fitCell ks ws ts l) (planOf c range)
+  run-is : (l : Limits) (range : KRange) → plannedSearch ks ws weights l (planOf c range) ≡ searchOf (fitCell ks ws weights l) (planOf c range)
   unfolding plannedSearch
   run-is l range = sym (if-true (startOf (planOf c range)) (sizes-hold range) refl)
 
   pub decided-is :
       (range : KRange) (high : Float) (plan : Plan) (limits : Limits) (r : Search)
-      → range ≡ rangeOf ks → high ≡ highestOf ws (c .«a_min») → plan ≡ planOf c range → limits ≡ limitsOf c high → r ≡ plannedSearch ks ws ts limits plan
-      → searchEnd tau c range high r ks ws ts ≡ decidedOf tau c ks ws ts
+      → range ≡ rangeOf ks → high ≡ highestOf ws (c .«a_min») → plan ≡ planOf c range → limits ≡ limitsOf c high → r ≡ plannedSearch ks ws weights limits plan
+      → searchEnd tau c range high r ks ws weights ≡ decidedOf tau c ks ws weights
   unfolding decidedOf fitSearch
   decided-is range high plan limits r e1 e2 e3 e4 e5 =
       let p : plan ≡ planOf c (rangeOf ks) = e3 ∙ ap (planOf c) e1 in
       let l : limits ≡ limitsOf c (highestOf ws (c .«a_min»)) = e4 ∙ ap (limitsOf c) e2 in
-      let found : r ≡ searchOf (fitCell ks ws ts (limitsOf c (highestOf ws (c .«a_min»)))) (planOf c (rangeOf ks)) =
-      e5 ∙ ap (λ (x : Limits). plannedSearch ks ws ts x plan) l ∙ ap (plannedSearch ks ws ts (limitsOf c (highestOf ws (c .«a_min»)))) p ∙ run-is (limitsOf c (highestOf ws (c .«a_min»))) (rangeOf ks) in
-      λ i. searchEnd tau c (e1 i) (e2 i) (found i) ks ws ts
+      let found : r ≡ searchOf (fitCell ks ws weights (limitsOf c (highestOf ws (c .«a_min»)))) (planOf c (rangeOf ks)) =
+      e5 ∙ ap (λ (x : Limits). plannedSearch ks ws weights x plan) l ∙ ap (plannedSearch ks ws weights (limitsOf c (highestOf ws (c .«a_min»)))) p ∙ run-is (limitsOf c (highestOf ws (c .«a_min»))) (rangeOf ks) in
+      λ i. searchEnd tau c (e1 i) (e2 i) (found i) ks ws weights
 
 -- the parameters, from what the three functions that work them out gave
 pub slice-is :
@@ -60,16 +60,16 @@ slice-is tau range active x m sigma low high rho b a e1 e2 e3 =
 
 -- the end at the best cell, from sigma, the active set and the slice there
 pub best-is :
-    (tau : Float) (c : FitConfig) (range : KRange) (high : Float) (best : Found) (counts : Counts) (ks ws ts : List Float)
+    (tau : Float) (c : FitConfig) (range : KRange) (high : Float) (best : Found) (counts : Counts) (ks ws weights : List Float)
     (sigma : Float) (active : List Bool) (s : SviSlice)
     → sigma ≡ expOf (best .ls) → active ≡ marksAt c high sigma (best .cell) → s ≡ sliceOf tau range active (best .cell .x) (best .m) sigma (c .«a_min») high
-    → endOf c counts high (best .cell .objective) active s ks ws ts ≡ bestEnd tau c range high best counts ks ws ts
+    → endOf c counts high (best .cell .objective) active s ks ws weights ≡ bestEnd tau c range high best counts ks ws weights
 unfolding bestEnd
-best-is tau c range high best counts ks ws ts sigma active s e1 e2 e3 =
+best-is tau c range high best counts ks ws weights sigma active s e1 e2 e3 =
     let f : active ≡ marksAt c high (expOf (best .ls)) (best .cell) = e2 ∙ ap (λ (t : Float). marksAt c high t (best .cell)) e1 in
     let g : s ≡ sliceOf tau range (marksAt c high (expOf (best .ls)) (best .cell)) (best .cell .x) (best .m) (expOf (best .ls)) (c .«a_min») high =
     e3 ∙ (λ i. sliceOf tau range (f i) (best .cell .x) (best .m) (e1 i) (c .«a_min») high) in
-    λ i. endOf c counts high (best .cell .objective) (f i) (g i) ks ws ts
+    λ i. endOf c counts high (best .cell .objective) (f i) (g i) ks ws weights
 
 -- the active set, from the rows, the bounds and their spread
 pub marks-are :

@@ -27,16 +27,16 @@ of-cond : {A B : Type 0} (f : A → B) (b : Bool) (x y : A) → f (cond b x y) �
 of-cond f true x y = refl
 of-cond f false x y = refl
 
-module _ (tau : Float) (c : FitConfig) (ks ws ts : List Float) where
+module _ (tau : Float) (c : FitConfig) (ks ws weights : List Float) where
   -- what the search found, and the slice there
   abbrev found : Search
-  found = fitSearch c ks ws ts
+  found = fitSearch c ks ws weights
 
   abbrev fitted : SviSlice
   fitted = sliceFrom tau c (rangeOf ks) (aMaxFor c ws) (found .found)
 
   abbrev sums : Sums
-  sums = sumsOf fitted ks ws ts
+  sums = sumsOf fitted ks ws weights
 
   abbrev rmse : Float
   rmse = rmseOf sums (length ks)
@@ -51,7 +51,7 @@ module _ (tau : Float) (c : FitConfig) (ks ws ts : List Float) where
       (unless (rmseHolds c rmse) 9
       0))))
 
-  pub late-number : decidedOf tau c ks ws ts .number ≡ lateNumber
+  pub late-number : decidedOf tau c ks ws weights .number ≡ lateNumber
   unfolding decidedOf searchEnd bestEnd endOf refusedWith acceptedOf lateNumber
   late-number =
       let n : FitAnswer → ℕ = λ a. a .number in
@@ -66,12 +66,12 @@ module _ (tau : Float) (c : FitConfig) (ks ws ts : List Float) where
       ∙ ap (unless (paramsHold c (aMaxFor c ws) o sums) 8)
       (of-cond n (rmseHolds c rmse) _ _))))
 
-module _ (tau : Float) (c : FitConfig) (ks ws ts : List Float) (room slots : ℕ) where
+module _ (tau : Float) (c : FitConfig) (ks ws weights : List Float) (room slots : ℕ) where
   abbrev pub entry : ℕ
-  entry = entryNumber tau c ks ws ts room slots
+  entry = entryNumber tau c ks ws weights room slots
 
   abbrev pub scaled : List Float
-  scaled = scaledFor c ts
+  scaled = scaledFor c weights
 
   abbrev decided : FitAnswer
   decided = decidedOf tau c ks ws scaled
@@ -82,13 +82,13 @@ module _ (tau : Float) (c : FitConfig) (ks ws ts : List Float) (room slots : ℕ
   same-number a m false = refl
 
   -- 12, 11, 10, 1, 2, 3, 4, 5 from the entry checks; where none of them fails, 6 to 9 or 0
-  pub answer-number : fitOf tau c ks ws ts room slots .number ≡ unless (eqb entry 0) entry (lateNumber tau c ks ws scaled)
+  pub answer-number : fitOf tau c ks ws weights room slots .number ≡ unless (eqb entry 0) entry (lateNumber tau c ks ws scaled)
   unfolding fitOf refusedWith
   answer-number =
       of-cond (λ (a : FitAnswer). a .number) (eqb entry 0) _ _
-      ∙ ap (unless (eqb entry 0) entry) (same-number decided (length (cappedOf (c .«max_weight_ratio») ts)) (eqb (decided .number) 0) ∙ late-number tau c ks ws scaled)
+      ∙ ap (unless (eqb entry 0) entry) (same-number decided (length (cappedOf (c .«max_weight_ratio») weights)) (eqb (decided .number) 0) ∙ late-number tau c ks ws scaled)
 
   -- a refusal of the entry checks carries nothing but 3's values
-  pub early-answer : (entry ≡ 0 → ⊥) → fitOf tau c ks ws ts room slots ≡ refusedEarly entry (length ks) (c .«min_observations»)
+  pub early-answer : (entry ≡ 0 → ⊥) → fitOf tau c ks ws weights room slots ≡ refusedEarly entry (length ks) (c .«min_observations»)
   unfolding fitOf
   early-answer h = sym (if-false _ (ne-eqb entry 0 h) refl)

@@ -87,8 +87,8 @@ acceptedOf c counts objective active s params rmse =
 
 -- 8 unless the slice passes its tests, evaluates at each observation and keeps to its objective; 9 unless rmse is in its range
 unfoldable pub endOf : FitConfig → Counts → Float → Float → List Bool → SviSlice → List Float → List Float → List Float → FitAnswer
-endOf c counts «a_max» objective active s ks ws ts =
-    let t = sumsOf s ks ws ts in
+endOf c counts «a_max» objective active s ks ws weights =
+    let t = sumsOf s ks ws weights in
     let rmse = rmseOf t (length ks) in
     unless (eqb (numberOf s) 0) (refusedAfter 8 counts)
     (unless (paramsHold c «a_max» objective t) (refusedAfter 8 counts)

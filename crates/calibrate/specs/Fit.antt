@@ -69,14 +69,14 @@ planFor c ks = planOf c (rangeOf ks)
 
 -- the search of observations k, w with the scaled weights t
 unfoldable pub fitSearch : FitConfig → List Float → List Float → List Float → Search
-fitSearch c ks ws ts = searchOf (fitCell ks ws ts (limitsFor c ws)) (planFor c ks)
+fitSearch c ks ws weights = searchOf (fitCell ks ws weights (limitsFor c ws)) (planFor c ks)
 
 -- the scaled weights of a fit, and its search with them
 abbrev pub scaledFor : FitConfig → List Float → List Float
-scaledFor c ts = scaledOf (c .«max_weight_ratio») ts
+scaledFor c weights = scaledOf (c .«max_weight_ratio») weights
 
 abbrev pub searchFor : FitConfig → List Float → List Float → List Float → Search
-searchFor c ks ws ts = fitSearch c ks ws (scaledFor c ts)
+searchFor c ks ws weights = fitSearch c ks ws (scaledFor c weights)
 
 -- ---- at the best point found: sigma, the active set, and the slice
 
@@ -95,19 +95,19 @@ sliceFrom tau c range «a_max» best = sliceOf tau range (activeFrom c «a_max»
 
 -- the end at the best cell
 unfoldable pub bestEnd : Float → FitConfig → KRange → Float → Found → Counts → List Float → List Float → List Float → FitAnswer
-bestEnd tau c range «a_max» best counts ks ws ts =
-    endOf c counts «a_max» (best .cell .objective) (activeFrom c «a_max» best) (sliceFrom tau c range «a_max» best) ks ws ts
+bestEnd tau c range «a_max» best counts ks ws weights =
+    endOf c counts «a_max» (best .cell .objective) (activeFrom c «a_max» best) (sliceFrom tau c range «a_max» best) ks ws weights
 
 -- 6, no qualifying face in some pass; 7, the best point on any edge of its pass's grid
 unfoldable pub searchEnd : Float → FitConfig → KRange → Float → Search → List Float → List Float → List Float → FitAnswer
-searchEnd tau c range «a_max» s ks ws ts =
+searchEnd tau c range «a_max» s ks ws weights =
     cond (s .refused) (refusedAfter 6 (s .counts))
     (cond (s .found .«on_edge») (refusedAfter 7 (s .counts))
-    (bestEnd tau c range «a_max» (s .found) (s .counts) ks ws ts))
+    (bestEnd tau c range «a_max» (s .found) (s .counts) ks ws weights))
 
 -- the answer of a fit that passed the entry checks, but for its capped positions
 unfoldable pub decidedOf : Float → FitConfig → List Float → List Float → List Float → FitAnswer
-decidedOf tau c ks ws ts = searchEnd tau c (rangeOf ks) (aMaxFor c ws) (fitSearch c ks ws ts) ks ws ts
+decidedOf tau c ks ws weights = searchEnd tau c (rangeOf ks) (aMaxFor c ws) (fitSearch c ks ws weights) ks ws weights
 
 -- ---- the whole
 
@@ -133,13 +133,13 @@ cappedAs a n =
       capped = n;
     }
 
--- the answer: of observations (k, w, weight) in ks, ws, ts, with room for so many residual numbers and capped positions
+-- the answer: of observations (k, w, weight) in ks, ws, weights, with room for so many residual numbers and capped positions
 unfoldable pub fitOf : Float → FitConfig → List Float → List Float → List Float → ℕ → ℕ → FitAnswer
-fitOf tau c ks ws ts room slots =
-    let decided = decidedOf tau c ks ws (scaledFor c ts) in
-    refusing (entryNumber tau c ks ws ts room slots) (λ n. refusedEarly n (length ks) (c .«min_observations»))
+fitOf tau c ks ws weights room slots =
+    let decided = decidedOf tau c ks ws (scaledFor c weights) in
+    refusing (entryNumber tau c ks ws weights room slots) (λ n. refusedEarly n (length ks) (c .«min_observations»))
     (unless (eqb (decided .number) 0) decided
-    (cappedAs decided (length (cappedOf (c .«max_weight_ratio») ts))))
+    (cappedAs decided (length (cappedOf (c .«max_weight_ratio») weights))))
 
 -- ---- the buffers
 
@@ -151,7 +151,7 @@ residualsOf s ks ws =
 
 -- the contract of `fit_slice`: the answer r; an accepted one writes its residuals and its capped positions, a refusal nothing
 pub record Fitted
-    (tau : Float) (c : FitConfig) (ks ws ts residuals : List Float) (capped : List ℕ) (r : FitAnswer) (residuals′ : List Float) (capped′ : List ℕ) : Type 0 where
-  pub answer : r ≡ fitOf tau c ks ws ts (length residuals) (length capped)
+    (tau : Float) (c : FitConfig) (ks ws weights residuals : List Float) (capped : List ℕ) (r : FitAnswer) (residuals′ : List Float) (capped′ : List ℕ) : Type 0 where
+  pub answer : r ≡ fitOf tau c ks ws weights (length residuals) (length capped)
   pub left : residuals′ ≡ written (r .number) (residualsOf (r .slice) ks ws) residuals
-  pub listed : capped′ ≡ written (r .number) (cappedOf (c .«max_weight_ratio») ts) capped
+  pub listed : capped′ ≡ written (r .number) (cappedOf (c .«max_weight_ratio») weights) capped

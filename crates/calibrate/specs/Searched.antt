@@ -29,16 +29,16 @@ pub record FromFound (tau : Float) (c : FitConfig) (ks ws : List Float) (s : Sea
 
 -- ---- the promise, of the answer a
 
-pub record Searched (tau : Float) (c : FitConfig) (ks ws ts : List Float) (a : FitAnswer) : Type 0 where
+pub record Searched (tau : Float) (c : FitConfig) (ks ws weights : List Float) (a : FitAnswer) : Type 0 where
   -- the five counts are those of the search as defined
-  pub counts : a .counts ≡ searchFor c ks ws ts .counts
+  pub counts : a .counts ≡ searchFor c ks ws weights .counts
   -- which keeps to its bounds, with 1 or 64 faces in a cell, and no qualifying face that it tries has a smaller objective than the one it chooses: each sentence is a field of search/specs/Promised.antt
-  pub search : Promised (fitCell ks ws (scaledFor c ts) (limitsFor c ws)) (fitFace ks ws (scaledFor c ts) (limitsFor c ws)) 64 (planFor c ks) (searchFor c ks ws ts)
+  pub search : Promised (fitCell ks ws (scaledFor c weights) (limitsFor c ws)) (fitFace ks ws (scaledFor c weights) (limitsFor c ws)) 64 (planFor c ks) (searchFor c ks ws weights)
   -- 6 where the search refuses, and only there
-  pub refuses : searchFor c ks ws ts .refused ≡ true → a .number ≡ 6
-  pub refused : a .number ≡ 6 → searchFor c ks ws ts .refused ≡ true
+  pub refuses : searchFor c ks ws weights .refused ≡ true → a .number ≡ 6
+  pub refused : a .number ≡ 6 → searchFor c ks ws weights .refused ≡ true
   -- an accepted answer is made from the face chosen
-  pub accepted : a .number ≡ 0 → FromFound tau c ks ws (searchFor c ks ws ts) a
+  pub accepted : a .number ≡ 0 → FromFound tau c ks ws (searchFor c ks ws weights) a
 
 -- ---- how large the counts of any answer are
 

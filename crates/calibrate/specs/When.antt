@@ -22,18 +22,18 @@ use Rattle.entry.specs.Entry.{rangeOf}
 use Rattle.records.specs.Answer.{noCounts, refusedWith}
 use Rattle.calibrate.specs.Fit.{aMaxFor, limitsFor, planFor, fitSearch, scaledFor, searchFor, sliceFrom}
 
--- ---- the search, for scaled weights ts
+-- ---- the search, for scaled weights
 
 -- 6: some pass made has no cell with a qualifying face, which is what a cell's `some` says. Pass q is made in the window of the state after q passes
 abbrev pub FacelessPass : FitConfig → List Float → List Float → List Float → Type 0
-FacelessPass c ks ws ts =
-    let f : CellFn = fitCell ks ws ts (limitsFor c ws) in
+FacelessPass c ks ws weights =
+    let f : CellFn = fitCell ks ws weights (limitsFor c ws) in
     let p : Plan = planFor c ks in
-    Some (fitSearch c ks ws ts .counts .passes) (λ q. (i j : ℕ) → i < c .grid → j < c .grid → cellAt f (afterPasses f p q .window) (c .grid) i j .some ≡ false)
+    Some (fitSearch c ks ws weights .counts .passes) (λ q. (i j : ℕ) → i < c .grid → j < c .grid → cellAt f (afterPasses f p q .window) (c .grid) i j .some ≡ false)
 
 -- 7: the best point stands on an edge of its pass's grid
 abbrev pub OnEdge : FitConfig → List Float → List Float → List Float → Type 0
-OnEdge c ks ws ts = fitSearch c ks ws ts .found .«on_edge» ≡ true
+OnEdge c ks ws weights = fitSearch c ks ws weights .found .«on_edge» ≡ true
 
 -- ---- the fit
 
@@ -41,18 +41,18 @@ OnEdge c ks ws ts = fitSearch c ks ws ts .found .«on_edge» ≡ true
 abbrev pub turn : ℕ → ℕ
 turn n = cond (leb 10 n) (12 - n) (n + 2)
 
-module _ (tau : Float) (c : FitConfig) (ks ws ts : List Float) (room slots : ℕ) where
+module _ (tau : Float) (c : FitConfig) (ks ws weights : List Float) (room slots : ℕ) where
   -- the slice that the fit tries
   abbrev pub tried : SviSlice
-  tried = sliceFrom tau c (rangeOf ks) (aMaxFor c ws) (searchFor c ks ws ts .found)
+  tried = sliceFrom tau c (rangeOf ks) (aMaxFor c ws) (searchFor c ks ws weights .found)
 
   -- the condition of refusal n holds
   pub data Fails (n : ℕ) : Type 0 where
-    at-entry : EntryFails tau c ks ws ts room slots n → Fails n
-    no-face : n ≡ 6 → FacelessPass c ks ws (scaledFor c ts) → Fails n
-    on-edge : n ≡ 7 → OnEdge c ks ws (scaledFor c ts) → Fails n
-    out-of-domain : n ≡ 8 → OutOfDomain c tried ks ws (scaledFor c ts) (aMaxFor c ws) (searchFor c ks ws ts .found .cell .objective) → Fails n
-    rmse-high : n ≡ 9 → RmseAboveMax c tried ks ws (scaledFor c ts) → Fails n
+    at-entry : EntryFails tau c ks ws weights room slots n → Fails n
+    no-face : n ≡ 6 → FacelessPass c ks ws (scaledFor c weights) → Fails n
+    on-edge : n ≡ 7 → OnEdge c ks ws (scaledFor c weights) → Fails n
+    out-of-domain : n ≡ 8 → OutOfDomain c tried ks ws (scaledFor c weights) (aMaxFor c ws) (searchFor c ks ws weights .found .cell .objective) → Fails n
+    rmse-high : n ≡ 9 → RmseAboveMax c tried ks ws (scaledFor c weights) → Fails n
 
   -- none of the conditions asked before n's holds
   abbrev pub NoneBefore : ℕ → Type 0
@@ -62,5 +62,5 @@ module _ (tau : Float) (c : FitConfig) (ks ws ts : List Float) (room slots : ℕ
   unfoldable pub refusalAnswer : ℕ → FitAnswer
   refusalAnswer n =
       refusedWith n (cond (eqb n 3) (length ks) 0) (cond (eqb n 3) (c .«min_observations») 0)
-      (cond (eqb n 9) (rmseAt tried ks ws (scaledFor c ts)) +0) (cond (eqb n 9) (c .«max_rmse_vol») +0)
-      (cond (leb 6 n && leb n 9) (searchFor c ks ws ts .counts) noCounts)
+      (cond (eqb n 9) (rmseAt tried ks ws (scaledFor c weights)) +0) (cond (eqb n 9) (c .«max_rmse_vol») +0)
+      (cond (leb 6 n && leb n 9) (searchFor c ks ws weights .counts) noCounts)

@@ -53,16 +53,16 @@ fn end(
     s: SviSlice,
     k: &[f64],
     w: &[f64],
-    ts: &[f64],
+    weights: &[f64],
 ) -> FitAnswer
-    requires { ⌜ (length (now w) ≡ length (now k)) × (length (now ts) ≡ length (now k)) ⌝ }
-    ensures { λ r. ⌜ r ≡ endOf config counts «a_max» objective active s (now (k .entry)) (now (w .entry)) (now (ts .entry)) ⌝ }
+    requires { ⌜ (length (now w) ≡ length (now k)) × (length (now weights) ≡ length (now k)) ⌝ }
+    ensures { λ r. ⌜ r ≡ endOf config counts «a_max» objective active s (now (k .entry)) (now (w .entry)) (now (weights .entry)) ⌝ }
 {
     let bad = slice::number(s);
     if bad != 0 {
         return records::refusal(8, 0, 0, 0.0, 0.0, counts);
     }
-    let t = judge::sums_of(s, k, w, ts);
+    let t = judge::sums_of(s, k, w, weights);
     let near = judge::params_hold(config, a_max, objective, t);
     if !near {
         return records::refusal(8, 0, 0, 0.0, 0.0, counts);
@@ -84,17 +84,27 @@ fn best_end(
     counts: Counts,
     k: &[f64],
     w: &[f64],
-    ts: &[f64],
+    weights: &[f64],
 ) -> FitAnswer
-    requires { ⌜ (length (now w) ≡ length (now k)) × (length (now ts) ≡ length (now k)) ⌝ }
-    ensures { λ r. ⌜ r ≡ bestEnd tau config range «a_max» best counts (now (k .entry)) (now (w .entry)) (now (ts .entry)) ⌝ }
+    requires { ⌜ (length (now w) ≡ length (now k)) × (length (now weights) ≡ length (now k)) ⌝ }
+    ensures { λ r. ⌜ r ≡ bestEnd tau config range «a_max» best counts (now (k .entry)) (now (w .entry)) (now (weights .entry)) ⌝ }
 {
     let cell = best.cell;
     let x = cell.x;
     let sigma = exponent::exp(best.ls);
     let active = params::marks_at(config, a_max, sigma, cell);
     let s = params::slice_of(tau, range, active, x, best.m, sigma, config.a_min, a_max);
-    end(config, counts, a_max, cell.objective, active, s, k, w, ts)
+    end(
+        config,
+        counts,
+        a_max,
+        cell.objective,
+        active,
+        s,
+        k,
+        w,
+        weights,
+    )
 }
 
 // 6, 7, or the end at the best cell.
@@ -106,10 +116,10 @@ pub(crate) fn search_end(
     s: Search,
     k: &[f64],
     w: &[f64],
-    ts: &[f64],
+    weights: &[f64],
 ) -> FitAnswer
-    requires { ⌜ (length (now w) ≡ length (now k)) × (length (now ts) ≡ length (now k)) ⌝ }
-    ensures { λ r. ⌜ r ≡ searchEnd tau config range «a_max» s (now (k .entry)) (now (w .entry)) (now (ts .entry)) ⌝ }
+    requires { ⌜ (length (now w) ≡ length (now k)) × (length (now weights) ≡ length (now k)) ⌝ }
+    ensures { λ r. ⌜ r ≡ searchEnd tau config range «a_max» s (now (k .entry)) (now (w .entry)) (now (weights .entry)) ⌝ }
 {
     let counts = s.counts;
     if s.refused {
@@ -119,5 +129,5 @@ pub(crate) fn search_end(
     if best.on_edge {
         return records::refusal(7, 0, 0, 0.0, 0.0, counts);
     }
-    best_end(tau, config, range, a_max, best, counts, k, w, ts)
+    best_end(tau, config, range, a_max, best, counts, k, w, weights)
 }

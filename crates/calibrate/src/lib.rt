@@ -57,16 +57,16 @@ fn limits_of(config: FitConfig, a_max: f64) -> Limits
 }
 
 // The whole answer of a fit that passed the entry checks, but for its capped positions. Nothing is written here.
-fn decided(tau: f64, config: FitConfig, k: &[f64], w: &[f64], ts: &[f64]) -> FitAnswer
-    requires { ⌜ Sized config (now k) (now w) (now ts) ⌝ }
-    ensures { λ r. ⌜ r ≡ decidedOf tau config (now (k .entry)) (now (w .entry)) (now (ts .entry)) ⌝ }
+fn decided(tau: f64, config: FitConfig, k: &[f64], w: &[f64], weights: &[f64]) -> FitAnswer
+    requires { ⌜ Sized config (now k) (now w) (now weights) ⌝ }
+    ensures { λ r. ⌜ r ≡ decidedOf tau config (now (k .entry)) (now (w .entry)) (now (weights .entry)) ⌝ }
 {
     let range = entry::range_of(k);
     let a_max = judge::highest(w, config.a_min);
     let plan = plan_of(config, range);
     let limits = limits_of(config, a_max);
-    let s = search::run(k, w, ts, limits, plan);
-    ending::search_end(tau, config, range, a_max, s, k, w, ts)
+    let s = search::run(k, w, weights, limits, plan);
+    ending::search_end(tau, config, range, a_max, s, k, w, weights)
 }
 
 // ---- the entry
@@ -113,9 +113,9 @@ pub fn fit_slice(
     if !good {
         return refused_early(5, 0, 0);
     }
-    let ts = scaled.w;
+    let weights = scaled.w;
     let n = weight.len();
-    let a = decided(tau, config, k, w, &ts[..n]);
+    let a = decided(tau, config, k, w, &weights[..n]);
     let bad = a.number;
     if bad != 0 {
         return a;

@@ -147,29 +147,29 @@ module _ (o : List Float → Float) (p : Problem) (count : ℕ) where
 
 -- ---- the cell of a model
 
-module _ (k : Model) (ks ws ts : List Float) (l : Limits) (m sigma : Float) where
+module _ (k : Model) (ks ws weights : List Float) (l : Limits) (m sigma : Float) where
   abbrev goal : List Float → Float
-  goal = goalAt ks ws ts m sigma
+  goal = goalAt ks ws weights m sigma
 
   abbrev stated : Problem
-  stated = problemAt k ks ws ts l m sigma
+  stated = problemAt k ks ws weights l m sigma
 
-  pub cell-faces : (cellOf k ks ws ts l m sigma .faces ≡ 1) ⊎ (cellOf k ks ws ts l m sigma .faces ≡ k .faces)
+  pub cell-faces : (cellOf k ks ws weights l m sigma .faces ≡ 1) ⊎ (cellOf k ks ws weights l m sigma .faces ≡ k .faces)
   unfolding cellOf posedOf
   cell-faces = chosen-faces goal stated (k .faces)
 
-  pub cell-finite : T (cellOf k ks ws ts l m sigma .some) → finite (cellOf k ks ws ts l m sigma .objective) ≡ true
+  pub cell-finite : T (cellOf k ks ws weights l m sigma .some) → finite (cellOf k ks ws weights l m sigma .objective) ≡ true
   unfolding cellOf posedOf
   cell-finite = chosen-finite goal stated (k .faces)
 
-  pub cell-least : (t : ℕ) → t < cellOf k ks ws ts l m sigma .faces → Beats (faceTried k ks ws ts l m sigma) (cellOf k ks ws ts l m sigma) t
+  pub cell-least : (t : ℕ) → t < cellOf k ks ws weights l m sigma .faces → Beats (faceTried k ks ws weights l m sigma) (cellOf k ks ws weights l m sigma) t
   unfolding cellOf posedOf faceTried
   cell-least = chosen-least goal stated (k .faces)
 
-  pub cell-first : T (cellOf k ks ws ts l m sigma .some) → (t : ℕ) × First (faceTried k ks ws ts l m sigma) (cellOf k ks ws ts l m sigma) t
+  pub cell-first : T (cellOf k ks ws weights l m sigma .some) → (t : ℕ) × First (faceTried k ks ws weights l m sigma) (cellOf k ks ws weights l m sigma) t
   unfolding cellOf posedOf faceTried
   cell-first = chosen-first goal stated (k .faces)
 
 -- the fit: 1 or 64
-pub fit-faces : (ks ws ts : List Float) (l : Limits) (m sigma : Float) → (cellOf fitModel ks ws ts l m sigma .faces ≡ 1) ⊎ (cellOf fitModel ks ws ts l m sigma .faces ≡ 64)
-fit-faces ks ws ts l m sigma = cell-faces fitModel ks ws ts l m sigma
+pub fit-faces : (ks ws weights : List Float) (l : Limits) (m sigma : Float) → (cellOf fitModel ks ws weights l m sigma .faces ≡ 1) ⊎ (cellOf fitModel ks ws weights l m sigma .faces ≡ 64)
+fit-faces ks ws weights l m sigma = cell-faces fitModel ks ws weights l m sigma

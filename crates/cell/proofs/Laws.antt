@@ -39,17 +39,17 @@ unfolding withOneOf hOf
 lengths-in-range ys n hs before l e = rw (le-leb n 256 l) at e
 
 -- a cell asks of y and h only at the observations
-module _ (y z h g : ℕ → Float) (ws ts : List Float) (ys : (i : ℕ) → i < length ws → y i ≡ z i) (hs : (i : ℕ) → i < length ws → h i ≡ g i) where
-  normal-same : normalEquations y h ws ts ≡ normalEquations z g ws ts
+module _ (y z h g : ℕ → Float) (ws weights : List Float) (ys : (i : ℕ) → i < length ws → y i ≡ z i) (hs : (i : ℕ) → i < length ws → h i ≡ g i) where
+  normal-same : normalEquations y h ws weights ≡ normalEquations z g ws weights
   unfolding normalEquations
-  normal-same = for-same _ _ (length ws) (λ i l s. ap₂ (λ (a b : Float). withObservation s (at ts i) a b (at ws i)) (ys i l) (hs i l)) _
+  normal-same = for-same _ _ (length ws) (λ i l s. ap₂ (λ (a b : Float). withObservation s (at weights i) a b (at ws i)) (ys i l) (hs i l)) _
 
-  objective-same : (x : List Float) → objectiveOf y h ws ts x ≡ objectiveOf z g ws ts x
+  objective-same : (x : List Float) → objectiveOf y h ws weights x ≡ objectiveOf z g ws weights x
   unfolding objectiveOf
   objective-same x =
-      for-same _ _ (length ws) (λ i l s. ap₂ (λ (a b : Float). s +f at ts i *f missOf x a b (at ws i) *f missOf x a b (at ws i)) (ys i l) (hs i l)) _
+      for-same _ _ (length ws) (λ i l s. ap₂ (λ (a b : Float). s +f at weights i *f missOf x a b (at ws i) *f missOf x a b (at ws i)) (ys i l) (hs i l)) _
 
-  pub posed-same : (k : Model) (l : Limits) (sigma : Float) → posedOf k y h ws ts l sigma ≡ posedOf k z g ws ts l sigma
+  pub posed-same : (k : Model) (l : Limits) (sigma : Float) → posedOf k y h ws weights l sigma ≡ posedOf k z g ws weights l sigma
   unfolding posedOf
   posed-same k l sigma = ap₂ (λ (o : List Float → Float) (n : Normal). chosenOf o (problemOf k n sigma l) (k .faces)) (fun-ext objective-same) normal-same
 
@@ -159,16 +159,16 @@ same-if false z f = refl
 
 -- in room for 256 numbers, `inner_on` is `inner`
 pub inner-lent :
-    (ks ws ts : List Float) (l : Limits) (m sigma : Float) (ys hs : List Float) → 256 ≤ length ys → 256 ≤ length hs
-    → innerOn ks ws ts l m sigma ys hs ≡ innerOf ks ws ts l m sigma
+    (ks ws weights : List Float) (l : Limits) (m sigma : Float) (ys hs : List Float) → 256 ≤ length ys → 256 ≤ length hs
+    → innerOn ks ws weights l m sigma ys hs ≡ innerOf ks ws weights l m sigma
 unfolding innerOn innerOf cellOf
-inner-lent ks ws ts l m sigma ys hs a b =
-    same-if (inRange ks ws ts) noCell
+inner-lent ks ws weights l m sigma ys hs a b =
+    same-if (inRange ks ws weights) noCell
     (λ e.
     let h = both _ _ e in
     let r = leb-true _ _ (h .0) in
     let w : length ws ≡ length ks = eqb-true _ _ (both _ _ (h .1) .0) in
-    posed-same (at (ysOn ks m sigma ys)) (yOf ks m sigma) (at (hsOn ks m sigma ys hs)) (λ i. hOf (yOf ks m sigma i)) ws ts
+    posed-same (at (ysOn ks m sigma ys)) (yOf ks m sigma) (at (hsOn ks m sigma ys hs)) (λ i. hOf (yOf ks m sigma i)) ws weights
     (λ i g. ys-at ks m sigma ys hs a b r i (omega (arith, g, w))) (λ i g. hs-at ks m sigma ys hs a b r i (omega (arith, g, w))) fitModel l sigma)
 
 -- ---- the faces
@@ -206,10 +206,10 @@ zero-or-more P z s zero = z
 zero-or-more P z s (suc t) = s (suc t) (omega arith)
 
 -- the answer for lists in range is that of the problem posed
-pub posed-on : (ks ws ts : List Float) (l : Limits) (m sigma : Float) (ys hs : List Float) {r : Cell} → inRange ks ws ts ≡ true
-    → r ≡ posedOf fitModel (at (ysOn ks m sigma ys)) (at (hsOn ks m sigma ys hs)) ws ts l sigma → r ≡ innerOn ks ws ts l m sigma ys hs
+pub posed-on : (ks ws weights : List Float) (l : Limits) (m sigma : Float) (ys hs : List Float) {r : Cell} → inRange ks ws weights ≡ true
+    → r ≡ posedOf fitModel (at (ysOn ks m sigma ys)) (at (hsOn ks m sigma ys hs)) ws weights l sigma → r ≡ innerOn ks ws weights l m sigma ys hs
 unfolding innerOn
-posed-on ks ws ts l m sigma ys hs t e = if-true _ t e
+posed-on ks ws weights l m sigma ys hs t e = if-true _ t e
 
 -- turns of a loop from 1
 pub one-more : (t : ℕ) → 1 ≤ t + 1

@@ -108,19 +108,19 @@ problemOf k n sigma l =
     problem (k .u) (k .n) (baseOf n) (rightOf n) rowsOf h (l .«pivot_tolerance») (l .«feasibility_tolerance» *f spreadOf h)
 
 unfoldable pub posedOf : Model → (ℕ → Float) → (ℕ → Float) → List Float → List Float → Limits → Float → Cell
-posedOf k y h ws ts l sigma = chosenOf (objectiveOf y h ws ts) (problemOf k (normalEquations y h ws ts) sigma l) (k .faces)
+posedOf k y h ws weights l sigma = chosenOf (objectiveOf y h ws weights) (problemOf k (normalEquations y h ws weights) sigma l) (k .faces)
 
 -- the cell (m, sigma) of a model, over as many k, w and weights t
 unfoldable pub cellOf : Model → List Float → List Float → List Float → Limits → Float → Float → Cell
-cellOf k ks ws ts l m sigma = posedOf k (yOf ks m sigma) (λ i. hOf (yOf ks m sigma i)) ws ts l sigma
+cellOf k ks ws weights l m sigma = posedOf k (yOf ks m sigma) (λ i. hOf (yOf ks m sigma i)) ws weights l sigma
 
 -- at most 256 observations, and as many w and weights as k
 abbrev pub inRange : List Float → List Float → List Float → Bool
-inRange ks ws ts = leb (length ks) 256 && (eqb (length ws) (length ks) && eqb (length ts) (length ks))
+inRange ks ws weights = leb (length ks) 256 && (eqb (length ws) (length ks) && eqb (length weights) (length ks))
 
 abbrev pub noCell : Cell
 noCell = record { some = false; objective = +0; x = +0 ∷ +0 ∷ +0 ∷ []; active = replicate 7 false; faces = 0 }
 
 -- `inner`; observations out of range give no face, and none is tried
 unfoldable pub innerOf : List Float → List Float → List Float → Limits → Float → Float → Cell
-innerOf ks ws ts l m sigma = unless (inRange ks ws ts) noCell (cellOf fitModel ks ws ts l m sigma)
+innerOf ks ws weights l m sigma = unless (inRange ks ws weights) noCell (cellOf fitModel ks ws weights l m sigma)

@@ -15,17 +15,17 @@ use Rattle.cell.specs.Cell.{Problem, tryOf, cellFrom, problemOf}
 
 -- the objective of the cell (m, sigma), over observations k, w and weights t
 abbrev pub goalAt : List Float → List Float → List Float → Float → Float → List Float → Float
-goalAt ks ws ts m sigma = objectiveOf (yOf ks m sigma) (λ i. hOf (yOf ks m sigma i)) ws ts
+goalAt ks ws weights m sigma = objectiveOf (yOf ks m sigma) (λ i. hOf (yOf ks m sigma i)) ws weights
 
 -- its problem, in a model
 abbrev pub problemAt : Model → List Float → List Float → List Float → Limits → Float → Float → Problem
-problemAt k ks ws ts l m sigma = problemOf k (normalEquations (yOf ks m sigma) (λ i. hOf (yOf ks m sigma i)) ws ts) sigma l
+problemAt k ks ws weights l m sigma = problemOf k (normalEquations (yOf ks m sigma) (λ i. hOf (yOf ks m sigma i)) ws weights) sigma l
 
 -- face t of it, tried: whether it qualifies (`some`), its objective and its x
 unfoldable pub faceTried : Model → List Float → List Float → List Float → Limits → Float → Float → ℕ → Tried
-faceTried k ks ws ts l m sigma t =
-    let p = problemAt k ks ws ts l m sigma in
-    tryOf (goalAt ks ws ts m sigma) p (faceAt (p .u) (p .n) t)
+faceTried k ks ws weights l m sigma t =
+    let p = problemAt k ks ws weights l m sigma in
+    tryOf (goalAt ks ws weights m sigma) p (faceAt (p .u) (p .n) t)
 
 -- the cell c is as good as face t of the faces g: where that face qualifies, c has one, and the face's objective is not smaller
 pub record Beats (g : ℕ → Tried) (c : Cell) (t : ℕ) : Type 0 where

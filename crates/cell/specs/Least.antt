@@ -33,7 +33,7 @@ noLine = record { lin = +0; q0 = +0; q1 = +0; q2 = +0 }
 
 -- over the observations in turn
 unfoldable pub normalEquations : (ℕ → Float) → (ℕ → Float) → List Float → List Float → Normal
-normalEquations y h ws ts = for 0 (length ws) (λ i s. withObservation s (at ts i) (y i) (h i) (at ws i)) (record { a = noLine; d = noLine; c = noLine })
+normalEquations y h ws weights = for 0 (length ws) (λ i s. withObservation s (at weights i) (y i) (h i) (at ws i)) (record { a = noLine; d = noLine; c = noLine })
 
 -- twice q in the corner of the 6 by 6 matrix of the empty face
 abbrev pub baseOf : Normal → List Float
@@ -52,9 +52,9 @@ abbrev pub missOf : List Float → Float → Float → Float → Float
 missOf x y h w = at x 0 +f at x 1 *f y +f at x 2 *f h -f w
 
 unfoldable pub objectiveOf : (ℕ → Float) → (ℕ → Float) → List Float → List Float → List Float → Float
-objectiveOf y h ws ts x =
-    for 0 (length ws) (λ i acc. acc +f at ts i *f missOf x (y i) (h i) (at ws i) *f missOf x (y i) (h i) (at ws i)) +0
+objectiveOf y h ws weights x =
+    for 0 (length ws) (λ i acc. acc +f at weights i *f missOf x (y i) (h i) (at ws i) *f missOf x (y i) (h i) (at ws i)) +0
 
 -- the same with the rows read from two lists
 abbrev pub objectiveAt : List Float → List Float → List Float → List Float → List Float → Float
-objectiveAt ys hs ws ts = objectiveOf (at ys) (at hs) ws ts
+objectiveAt ys hs ws weights = objectiveOf (at ys) (at hs) ws weights

@@ -21,5 +21,5 @@ hsOn ks m sigma ys hs = filledOn (length ks) (λ i. hOf (at (ysOn ks m sigma ys)
 
 -- the cell over what the room then holds; observations out of range give no face, and none is tried
 unfoldable pub innerOn : List Float → List Float → List Float → Limits → Float → Float → List Float → List Float → Cell
-innerOn ks ws ts l m sigma ys hs =
-    unless (inRange ks ws ts) noCell (posedOf fitModel (at (ysOn ks m sigma ys)) (at (hsOn ks m sigma ys hs)) ws ts l sigma)
+innerOn ks ws weights l m sigma ys hs =
+    unless (inRange ks ws weights) noCell (posedOf fitModel (at (ysOn ks m sigma ys)) (at (hsOn ks m sigma ys hs)) ws weights l sigma)

@@ -40,9 +40,9 @@ fn added(n: Normal, t: f64, y: f64, h: f64, w: f64) -> Normal
 }
 
 // The normal equations.
-pub(crate) fn normal_sum(ys: &[f64; 256], hs: &[f64; 256], ws: &[f64], ts: &[f64]) -> Normal
-    requires { ⌜ (length (now ws) ≤ 256) × (length (now ts) ≡ length (now ws)) ⌝ }
-    ensures { λ r. ⌜ r ≡ normalEquations (at (now (ys .entry))) (at (now (hs .entry))) (now (ws .entry)) (now (ts .entry)) ⌝ }
+pub(crate) fn normal_sum(ys: &[f64; 256], hs: &[f64; 256], ws: &[f64], weights: &[f64]) -> Normal
+    requires { ⌜ (length (now ws) ≤ 256) × (length (now weights) ≡ length (now ws)) ⌝ }
+    ensures { λ r. ⌜ r ≡ normalEquations (at (now (ys .entry))) (at (now (hs .entry))) (now (ws .entry)) (now (weights .entry)) ⌝ }
 {
     let z = Line {
         lin: 0.0,
@@ -52,7 +52,7 @@ pub(crate) fn normal_sum(ys: &[f64; 256], hs: &[f64; 256], ws: &[f64], ts: &[f64
     };
     let mut n = Normal { a: z, d: z, c: z };
     for i in 0..ws.len() {
-        n = added(n, ts[i], ys[i], hs[i], ws[i]);
+        n = added(n, weights[i], ys[i], hs[i], ws[i]);
     }
     n
 }
@@ -105,16 +105,16 @@ pub(crate) fn objective(
     ys: &[f64; 256],
     hs: &[f64; 256],
     ws: &[f64],
-    ts: &[f64],
+    weights: &[f64],
     x: &[f64; 3],
 ) -> f64
-    requires { ⌜ (length (now ws) ≤ 256) × (length (now ts) ≡ length (now ws)) ⌝ }
-    ensures { λ r. ⌜ r ≡ objectiveOf (at (now (ys .entry))) (at (now (hs .entry))) (now (ws .entry)) (now (ts .entry)) (now (x .entry)) ⌝ }
+    requires { ⌜ (length (now ws) ≤ 256) × (length (now weights) ≡ length (now ws)) ⌝ }
+    ensures { λ r. ⌜ r ≡ objectiveOf (at (now (ys .entry))) (at (now (hs .entry))) (now (ws .entry)) (now (weights .entry)) (now (x .entry)) ⌝ }
 {
     let mut acc = 0.0;
     for i in 0..ws.len() {
         let r = x[0] + x[1] * ys[i] + x[2] * hs[i] - ws[i];
-        acc = acc + ts[i] * r * r;
+        acc = acc + weights[i] * r * r;
     }
     acc
 }

@@ -81,13 +81,13 @@ fn empty(
     ys: &[f64; 256],
     hs: &[f64; 256],
     ws: &[f64],
-    ts: &[f64],
+    weights: &[f64],
     pivot: f64,
     scale: f64,
     slack: f64,
 ) -> Tried
-    requires { ⌜ (length (now ws) ≤ 256) × (length (now ts) ≡ length (now ws)) × (scale ≡ emptyScale (now b)) × (now g ≡ rowsOf) ⌝ }
-    ensures { λ r. ⌜ r ≡ tryOf (objectiveAt (now (ys .entry)) (now (hs .entry)) (now (ws .entry)) (now (ts .entry))) (problemIn (now (b .entry)) (now (g .entry)) (now (h .entry)) pivot slack) (faceAt 3 7 0) ⌝ }
+    requires { ⌜ (length (now ws) ≤ 256) × (length (now weights) ≡ length (now ws)) × (scale ≡ emptyScale (now b)) × (now g ≡ rowsOf) ⌝ }
+    ensures { λ r. ⌜ r ≡ tryOf (objectiveAt (now (ys .entry)) (now (hs .entry)) (now (ws .entry)) (now (weights .entry))) (problemIn (now (b .entry)) (now (g .entry)) (now (h .entry)) pivot slack) (faceAt 3 7 0) ⌝ }
 {
     if !scales::positive(scale) {
         return trial::no_try();
@@ -102,7 +102,7 @@ fn empty(
     if !e.ok {
         return trial::no_try();
     }
-    let v = least::objective(ys, hs, ws, ts, &e.x);
+    let v = least::objective(ys, hs, ws, weights, &e.x);
     trial::judged(trial::no_try(), f, e.x, v)
 }
 
@@ -114,14 +114,14 @@ fn best(
     ys: &[f64; 256],
     hs: &[f64; 256],
     ws: &[f64],
-    ts: &[f64],
+    weights: &[f64],
     pivot: f64,
     scale: f64,
     slack: f64,
 ) -> Tried
-    requires { ⌜ (length (now ws) ≤ 256) × (length (now ts) ≡ length (now ws)) × Scaled (now b) scale × (now g ≡ rowsOf) ⌝ }
-    requires { ⌜ tryOf (objectiveAt (now ys) (now hs) (now ws) (now ts)) (problemIn (now b) (now g) (now h) pivot slack) (faceAt 3 7 0) .some ≡ false ⌝ }
-    ensures { λ r. ⌜ r ≡ bestOf (objectiveAt (now (ys .entry)) (now (hs .entry)) (now (ws .entry)) (now (ts .entry))) (problemIn (now (b .entry)) (now (g .entry)) (now (h .entry)) pivot slack) 64 ⌝ }
+    requires { ⌜ (length (now ws) ≤ 256) × (length (now weights) ≡ length (now ws)) × Scaled (now b) scale × (now g ≡ rowsOf) ⌝ }
+    requires { ⌜ tryOf (objectiveAt (now ys) (now hs) (now ws) (now weights)) (problemIn (now b) (now g) (now h) pivot slack) (faceAt 3 7 0) .some ≡ false ⌝ }
+    ensures { λ r. ⌜ r ≡ bestOf (objectiveAt (now (ys .entry)) (now (hs .entry)) (now (ws .entry)) (now (weights .entry))) (problemIn (now (b .entry)) (now (g .entry)) (now (h .entry)) pivot slack) 64 ⌝ }
 {
     let mut best = trial::no_try();
     if !scales::positive(scale) {
@@ -138,7 +138,7 @@ fn best(
         f = faces::next(f);
         let e = trial::candidate(b, g, h, limit, slack, f);
         if e.ok {
-            let v = least::objective(ys, hs, ws, ts, &e.x);
+            let v = least::objective(ys, hs, ws, weights, &e.x);
             best = trial::judged(best, f, e.x, v);
         }
     }
@@ -167,15 +167,15 @@ fn chosen(
     ys: &[f64; 256],
     hs: &[f64; 256],
     ws: &[f64],
-    ts: &[f64],
+    weights: &[f64],
     pivot: f64,
     scale: f64,
     slack: f64,
 ) -> Cell
-    requires { ⌜ (length (now ws) ≤ 256) × (length (now ts) ≡ length (now ws)) × (scale ≡ emptyScale (now b)) × Scaled (now b) (otherScale (now b)) × (now g ≡ rowsOf) ⌝ }
-    ensures { λ r. ⌜ r ≡ chosenOf (objectiveAt (now (ys .entry)) (now (hs .entry)) (now (ws .entry)) (now (ts .entry))) (problemIn (now (b .entry)) (now (g .entry)) (now (h .entry)) pivot slack) 64 ⌝ }
+    requires { ⌜ (length (now ws) ≤ 256) × (length (now weights) ≡ length (now ws)) × (scale ≡ emptyScale (now b)) × Scaled (now b) (otherScale (now b)) × (now g ≡ rowsOf) ⌝ }
+    ensures { λ r. ⌜ r ≡ chosenOf (objectiveAt (now (ys .entry)) (now (hs .entry)) (now (ws .entry)) (now (weights .entry))) (problemIn (now (b .entry)) (now (g .entry)) (now (h .entry)) pivot slack) 64 ⌝ }
 {
-    let e = empty(b, g, h, ys, hs, ws, ts, pivot, scale, slack);
+    let e = empty(b, g, h, ys, hs, ws, weights, pivot, scale, slack);
     if e.some {
         return cell_from(e, 1);
     }
@@ -186,7 +186,7 @@ fn chosen(
         ys,
         hs,
         ws,
-        ts,
+        weights,
         pivot,
         bits::pick(scale < 1.0, 1.0, scale),
         slack,
@@ -195,57 +195,75 @@ fn chosen(
 }
 
 // A cell, with the rows of the observations at hand.
-fn posed(ys: &[f64; 256], hs: &[f64; 256], ws: &[f64], ts: &[f64], l: Limits, sigma: f64) -> Cell
-    requires { ⌜ (length (now ws) ≤ 256) × (length (now ts) ≡ length (now ws)) ⌝ }
-    ensures { λ r. ⌜ r ≡ posedOf fitModel (at (now (ys .entry))) (at (now (hs .entry))) (now (ws .entry)) (now (ts .entry)) l sigma ⌝ }
+fn posed(
+    ys: &[f64; 256],
+    hs: &[f64; 256],
+    ws: &[f64],
+    weights: &[f64],
+    l: Limits,
+    sigma: f64,
+) -> Cell
+    requires { ⌜ (length (now ws) ≤ 256) × (length (now weights) ≡ length (now ws)) ⌝ }
+    ensures { λ r. ⌜ r ≡ posedOf fitModel (at (now (ys .entry))) (at (now (hs .entry))) (now (ws .entry)) (now (weights .entry)) l sigma ⌝ }
 {
-    let n = least::normal_sum(ys, hs, ws, ts);
+    let n = least::normal_sum(ys, hs, ws, weights);
     let b = least::doubled(n);
     let scale = scales::block_scale(&b);
     let g = polytope::rows();
     let h = polytope::bounds(sigma, l.a_min, l.a_max);
     let slack = l.feasibility_tolerance * polytope::spread(&h);
-    chosen(&b, &g, &h, ys, hs, ws, ts, l.pivot_tolerance, scale, slack)
+    chosen(
+        &b,
+        &g,
+        &h,
+        ys,
+        hs,
+        ws,
+        weights,
+        l.pivot_tolerance,
+        scale,
+        slack,
+    )
 }
 
 // The cell (m, sigma): y and its hypotenuse with 1 are worked out once for each observation, in lent room.
 fn cell_at(
     ks: &[f64],
     ws: &[f64],
-    ts: &[f64],
+    weights: &[f64],
     l: Limits,
     m: f64,
     sigma: f64,
     ys: &mut [f64; 256],
     hs: &mut [f64; 256],
 ) -> Cell
-    requires { ⌜ (length (now ks) ≤ 256) × (length (now ws) ≡ length (now ks)) × (length (now ts) ≡ length (now ks)) ⌝ }
-    ensures { λ r. ⌜ r ≡ posedOf fitModel (at (ysOn (now (ks .entry)) m sigma (now (ys .entry)))) (at (hsOn (now (ks .entry)) m sigma (now (ys .entry)) (now (hs .entry)))) (now (ws .entry)) (now (ts .entry)) l sigma ⌝ }
+    requires { ⌜ (length (now ks) ≤ 256) × (length (now ws) ≡ length (now ks)) × (length (now weights) ≡ length (now ks)) ⌝ }
+    ensures { λ r. ⌜ r ≡ posedOf fitModel (at (ysOn (now (ks .entry)) m sigma (now (ys .entry)))) (at (hsOn (now (ks .entry)) m sigma (now (ys .entry)) (now (hs .entry)))) (now (ws .entry)) (now (weights .entry)) l sigma ⌝ }
     ensures { λ r. ⌜ now (ys .exit) ≡ ysOn (now (ks .entry)) m sigma (now (ys .entry)) ⌝ }
     ensures { λ r. ⌜ now (hs .exit) ≡ hsOn (now (ks .entry)) m sigma (now (ys .entry)) (now (hs .entry)) ⌝ }
 {
     least::fill_ys(ks, m, sigma, ys);
     roots::lengths::with_one(ys, ks.len(), hs);
-    posed(ys, hs, ws, ts, l, sigma)
+    posed(ys, hs, ws, weights, l, sigma)
 }
 
 // The cell of the fit, in lent room, so that a search need not make it again for each cell. Over 256 observations, or not as many w or weights as k, give no face, none is tried, and the room is left as it was.
 pub fn inner_on(
     ks: &[f64],
     ws: &[f64],
-    ts: &[f64],
+    weights: &[f64],
     l: Limits,
     m: f64,
     sigma: f64,
     ys: &mut [f64; 256],
     hs: &mut [f64; 256],
 ) -> Cell
-    ensures { λ r. ⌜ r ≡ innerOn (now (ks .entry)) (now (ws .entry)) (now (ts .entry)) l m sigma (now (ys .entry)) (now (hs .entry)) ⌝ }
-    ensures { λ r. ⌜ now (ys .exit) ≡ unless (inRange (now (ks .entry)) (now (ws .entry)) (now (ts .entry))) (now (ys .entry)) (ysOn (now (ks .entry)) m sigma (now (ys .entry))) ⌝ }
-    ensures { λ r. ⌜ now (hs .exit) ≡ unless (inRange (now (ks .entry)) (now (ws .entry)) (now (ts .entry))) (now (hs .entry)) (hsOn (now (ks .entry)) m sigma (now (ys .entry)) (now (hs .entry))) ⌝ }
+    ensures { λ r. ⌜ r ≡ innerOn (now (ks .entry)) (now (ws .entry)) (now (weights .entry)) l m sigma (now (ys .entry)) (now (hs .entry)) ⌝ }
+    ensures { λ r. ⌜ now (ys .exit) ≡ unless (inRange (now (ks .entry)) (now (ws .entry)) (now (weights .entry))) (now (ys .entry)) (ysOn (now (ks .entry)) m sigma (now (ys .entry))) ⌝ }
+    ensures { λ r. ⌜ now (hs .exit) ≡ unless (inRange (now (ks .entry)) (now (ws .entry)) (now (weights .entry))) (now (hs .entry)) (hsOn (now (ks .entry)) m sigma (now (ys .entry)) (now (hs .entry))) ⌝ }
 {
-    if (ks.len() <= 256) & ((ws.len() == ks.len()) & (ts.len() == ks.len())) {
-        return cell_at(ks, ws, ts, l, m, sigma, ys, hs);
+    if (ks.len() <= 256) & ((ws.len() == ks.len()) & (weights.len() == ks.len())) {
+        return cell_at(ks, ws, weights, l, m, sigma, ys, hs);
     }
     Cell {
         some: false,
@@ -257,10 +275,10 @@ pub fn inner_on(
 }
 
 // The cell of the fit. Over 256 observations, or not as many w or weights as k, give no face, and none is tried.
-pub fn inner(ks: &[f64], ws: &[f64], ts: &[f64], l: Limits, m: f64, sigma: f64) -> Cell
-    ensures { λ r. ⌜ r ≡ innerOf (now (ks .entry)) (now (ws .entry)) (now (ts .entry)) l m sigma ⌝ }
+pub fn inner(ks: &[f64], ws: &[f64], weights: &[f64], l: Limits, m: f64, sigma: f64) -> Cell
+    ensures { λ r. ⌜ r ≡ innerOf (now (ks .entry)) (now (ws .entry)) (now (weights .entry)) l m sigma ⌝ }
 {
     let mut ys = [0.0; 256];
     let mut hs = [0.0; 256];
-    inner_on(ks, ws, ts, l, m, sigma, &mut ys, &mut hs)
+    inner_on(ks, ws, weights, l, m, sigma, &mut ys, &mut hs)
 }

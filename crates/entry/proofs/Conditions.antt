@@ -35,25 +35,25 @@ not-T e = subst (λ (b : Bool). T (not b)) (sym e) tt
 
 -- ---- 12
 
-module _ (ks ws ts : List Float) (room slots : ℕ) where
+module _ (ks ws weights : List Float) (room slots : ℕ) where
   abbrev n : ℕ
   n = length ks
 
-  pub lengths-fail : lengthsHold ks ws ts room slots ≡ false → UnequalOrShort ks ws ts room slots
+  pub lengths-fail : lengthsHold ks ws weights room slots ≡ false → UnequalOrShort ks ws weights room slots
   unfolding lengthsHold
   lengths-fail h =
-      split (eqb n (length ws) && eqb n (length ts) && leb (n * 4) room) (leb n slots) h
-      (λ h. split (eqb n (length ws) && eqb n (length ts)) (leb (n * 4) room) h
-      (λ h. split (eqb n (length ws)) (eqb n (length ts)) h (λ e. when.unequal-w (eqb-false _ _ e)) (λ e. when.unequal-weight (eqb-false _ _ e)))
+      split (eqb n (length ws) && eqb n (length weights) && leb (n * 4) room) (leb n slots) h
+      (λ h. split (eqb n (length ws) && eqb n (length weights)) (leb (n * 4) room) h
+      (λ h. split (eqb n (length ws)) (eqb n (length weights)) h (λ e. when.unequal-w (eqb-false _ _ e)) (λ e. when.unequal-weight (eqb-false _ _ e)))
       (λ e. when.short-residuals (leb-false _ _ e)))
       (λ e. when.short-capped (leb-false _ _ e))
 
-  pub lengths-refute : lengthsHold ks ws ts room slots ≡ true → UnequalOrShort ks ws ts room slots → ⊥
+  pub lengths-refute : lengthsHold ks ws weights room slots ≡ true → UnequalOrShort ks ws weights room slots → ⊥
   lengths-refute h =
-      let l = lengths-are ks ws ts room slots h in
+      let l = lengths-are ks ws weights room slots h in
       elim [
         | when.unequal-w f ↦ f (sym (l .ws-long))
-        | when.unequal-weight f ↦ f (sym (l .ts-long))
+        | when.unequal-weight f ↦ f (sym (l .weights-long))
         | when.short-residuals m ↦ omega (arith, l .rooms)
         | when.short-capped m ↦ omega (arith, l .places)
       ]
@@ -120,22 +120,22 @@ module _ (k w t : Float) where
         | when.weight-not-positive e ↦ off e (p .1)
       ]
 
-module _ (ks ws ts : List Float) where
+module _ (ks ws weights : List Float) where
   abbrev Bad : Type 0
-  Bad = Some (length ks) (λ i. BadObservation (at ks i) (at ws i) (at ts i))
+  Bad = Some (length ks) (λ i. BadObservation (at ks i) (at ws i) (at weights i))
 
-  pub observations-fail : columnsPass ks ws ts ≡ false → Bad
+  pub observations-fail : columnsPass ks ws weights ≡ false → Bad
   unfolding columnsPass
   observations-fail h =
-      let s = some-fails (λ i. passes (at ks i) (at ws i) (at ts i)) (length ks) h in
-      (s .0, s .1, passes-fail (at ks (s .0)) (at ws (s .0)) (at ts (s .0)) (s .2))
+      let s = some-fails (λ i. passes (at ks i) (at ws i) (at weights i)) (length ks) h in
+      (s .0, s .1, passes-fail (at ks (s .0)) (at ws (s .0)) (at weights (s .0)) (s .2))
 
-  pub observations-pass : columnsPass ks ws ts ≡ true → (i : ℕ) → i < length ks → passes (at ks i) (at ws i) (at ts i) ≡ true
+  pub observations-pass : columnsPass ks ws weights ≡ true → (i : ℕ) → i < length ks → passes (at ks i) (at ws i) (at weights i) ≡ true
   unfolding columnsPass
-  observations-pass = none-fails (λ i. passes (at ks i) (at ws i) (at ts i)) (length ks)
+  observations-pass = none-fails (λ i. passes (at ks i) (at ws i) (at weights i)) (length ks)
 
-  pub observations-refute : columnsPass ks ws ts ≡ true → Bad → ⊥
-  observations-refute h s = passes-refute (at ks (s .0)) (at ws (s .0)) (at ts (s .0)) (observations-pass h (s .0) (s .1)) (s .2)
+  pub observations-refute : columnsPass ks ws weights ≡ true → Bad → ⊥
+  observations-refute h s = passes-refute (at ks (s .0)) (at ws (s .0)) (at weights (s .0)) (observations-pass h (s .0) (s .1)) (s .2)
 
 -- ---- 1
 
@@ -228,16 +228,16 @@ module _ (c : FitConfig) where
 
 -- ---- 5
 
-module _ (ratio : Float) (ts : List Float) where
+module _ (ratio : Float) (weights : List Float) where
   abbrev scaled : List Float
-  scaled = scaledOf ratio ts
+  scaled = scaledOf ratio weights
 
-  pub weights-fail : allGood scaled ≡ false → Some (length ts) (λ i. positive (at scaled i) ≡ false)
+  pub weights-fail : allGood scaled ≡ false → Some (length weights) (λ i. positive (at scaled i) ≡ false)
   unfolding allGood
   weights-fail h =
       let s = some-fails (λ i. positive (at scaled i)) (length scaled) h in
-      (s .0, subst (λ (m : ℕ). s .0 < m) (scaled-length ratio ts) (s .1), s .2)
+      (s .0, subst (λ (m : ℕ). s .0 < m) (scaled-length ratio weights) (s .1), s .2)
 
-  pub weights-refute : allGood scaled ≡ true → Some (length ts) (λ i. positive (at scaled i) ≡ false) → ⊥
+  pub weights-refute : allGood scaled ≡ true → Some (length weights) (λ i. positive (at scaled i) ≡ false) → ⊥
   unfolding allGood
-  weights-refute h s = off (s .2) (none-fails (λ i. positive (at scaled i)) (length scaled) h (s .0) (subst (λ (m : ℕ). s .0 < m) (sym (scaled-length ratio ts)) (s .1)))
+  weights-refute h s = off (s .2) (none-fails (λ i. positive (at scaled i)) (length scaled) h (s .0) (subst (λ (m : ℕ). s .0 < m) (sym (scaled-length ratio weights)) (s .1)))

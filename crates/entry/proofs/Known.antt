@@ -20,20 +20,20 @@ use Rattle.entry.specs.Sized.{Sized}
 
 -- ---- each check, from its test
 
-pub record Lengths (ks ws ts : List Float) (room slots : ℕ) : Type 0 where
+pub record Lengths (ks ws weights : List Float) (room slots : ℕ) : Type 0 where
   pub ws-long : length ws ≡ length ks
-  pub ts-long : length ts ≡ length ks
+  pub weights-long : length weights ≡ length ks
   pub rooms : length ks * 4 ≤ room
   pub places : length ks ≤ slots
 
-pub lengths-are : (ks ws ts : List Float) (room slots : ℕ) → lengthsHold ks ws ts room slots ≡ true → Lengths ks ws ts room slots
+pub lengths-are : (ks ws weights : List Float) (room slots : ℕ) → lengthsHold ks ws weights room slots ≡ true → Lengths ks ws weights room slots
 unfolding lengthsHold
-lengths-are ks ws ts room slots h =
+lengths-are ks ws weights room slots h =
     let n = length ks in
-    let p = both (eqb n (length ws) && eqb n (length ts) && leb (n * 4) room) (leb n slots) h in
-    let q = both (eqb n (length ws) && eqb n (length ts)) (leb (n * 4) room) (p .0) in
-    let r = both (eqb n (length ws)) (eqb n (length ts)) (q .0) in
-    record { ws-long = sym (eqb-true _ _ (r .0)); ts-long = sym (eqb-true _ _ (r .1)); rooms = leb-true _ _ (q .1); places = leb-true _ _ (p .1) }
+    let p = both (eqb n (length ws) && eqb n (length weights) && leb (n * 4) room) (leb n slots) h in
+    let q = both (eqb n (length ws) && eqb n (length weights)) (leb (n * 4) room) (p .0) in
+    let r = both (eqb n (length ws)) (eqb n (length weights)) (q .0) in
+    record { ws-long = sym (eqb-true _ _ (r .0)); weights-long = sym (eqb-true _ _ (r .1)); rooms = leb-true _ _ (q .1); places = leb-true _ _ (p .1) }
 
 record Sizes (n : ℕ) (c : FitConfig) : Type 0 where
   most : n ≤ 256
@@ -61,21 +61,21 @@ least-setting c h =
 
 -- ---- all of them
 
-pub record Passed (c : FitConfig) (ks ws ts : List Float) (room slots : ℕ) : Type 0 where
-  pub sized : Sized c ks ws ts
+pub record Passed (c : FitConfig) (ks ws weights : List Float) (room slots : ℕ) : Type 0 where
+  pub sized : Sized c ks ws weights
   pub rooms : length ks * 4 ≤ room
   pub places : length ks ≤ slots
 
-pub passed : (tau : Float) (c : FitConfig) (ks ws ts : List Float) (room slots : ℕ) → checksNumber tau c ks ws ts room slots ≡ 0 → Passed c ks ws ts room slots
+pub passed : (tau : Float) (c : FitConfig) (ks ws weights : List Float) (room slots : ℕ) → checksNumber tau c ks ws weights room slots ≡ 0 → Passed c ks ws weights room slots
 unfolding checksNumber
-passed tau c ks ws ts room slots h =
-    let p = passed-one (lengthsHold ks ws ts room slots) 12 _ (λ e. omega arith) h in
+passed tau c ks ws weights room slots h =
+    let p = passed-one (lengthsHold ks ws weights room slots) 12 _ (λ e. omega arith) h in
     let q = passed-one (sizesHold (length ks) c) 11 _ (λ e. omega arith) (p .1) in
-    let r = passed-one (columnsPass ks ws ts) 10 _ (λ e. omega arith) (q .1) in
+    let r = passed-one (columnsPass ks ws weights) 10 _ (λ e. omega arith) (q .1) in
     let s = passed-one (settingsHold c) 1 _ (λ e. omega arith) (r .1) in
     let t = passed-one (positive tau) 2 _ (λ e. omega arith) (s .1) in
     let u = passed-one (leb (c .«min_observations») (length ks)) 3 _ (λ e. omega arith) (t .1) in
-    let l = lengths-are ks ws ts room slots (p .0) in
+    let l = lengths-are ks ws weights room slots (p .0) in
     let z = sizes-are (length ks) c (q .0) in
     let m = least-setting c (s .0) in
     let n = leb-true (c .«min_observations») (length ks) (u .0) in
@@ -85,7 +85,7 @@ passed tau c ks ws ts room slots h =
             least = omega (arith, m, n);
             most = z .most;
             ws-long = l .ws-long;
-            ts-long = l .ts-long;
+            weights-long = l .weights-long;
             grid = z .grid;
             refinements = z .refinements;
             recentres = z .recentres;
@@ -94,28 +94,28 @@ passed tau c ks ws ts room slots h =
       places = l .places;
     }
 
-module _ (tau : Float) (c : FitConfig) (ks ws ts : List Float) (room slots : ℕ) where
+module _ (tau : Float) (c : FitConfig) (ks ws weights : List Float) (room slots : ℕ) where
   abbrev checked : ℕ
-  checked = checksNumber tau c ks ws ts room slots
+  checked = checksNumber tau c ks ws weights room slots
 
   abbrev weighs : Bool
-  weighs = allGood (scaledOf (c .«max_weight_ratio») ts)
+  weighs = allGood (scaledOf (c .«max_weight_ratio») weights)
 
   -- the number of the entry checks, from the first ones and the weights
-  pub entry-first : (checked ≡ 0 → ⊥) → checked ≡ entryNumber tau c ks ws ts room slots
+  pub entry-first : (checked ≡ 0 → ⊥) → checked ≡ entryNumber tau c ks ws weights room slots
   unfolding entryNumber
   entry-first h = if-false _ (ne-eqb checked 0 h) refl
 
-  pub entry-five : checked ≡ 0 → weighs ≡ false → 5 ≡ entryNumber tau c ks ws ts room slots
+  pub entry-five : checked ≡ 0 → weighs ≡ false → 5 ≡ entryNumber tau c ks ws weights room slots
   unfolding entryNumber
   entry-five h w = if-true _ (eq-eqb checked 0 h) (if-false _ w refl)
 
-  pub entry-none : checked ≡ 0 → weighs ≡ true → 0 ≡ entryNumber tau c ks ws ts room slots
+  pub entry-none : checked ≡ 0 → weighs ≡ true → 0 ≡ entryNumber tau c ks ws weights room slots
   unfolding entryNumber
   entry-none h w = if-true _ (eq-eqb checked 0 h) (if-true _ w refl)
 
   -- and backwards
-  pub entered : entryNumber tau c ks ws ts room slots ≡ 0 → (checked ≡ 0) × (weighs ≡ true)
+  pub entered : entryNumber tau c ks ws weights room slots ≡ 0 → (checked ≡ 0) × (weighs ≡ true)
   unfolding entryNumber
   entered h = go (eqb checked 0) refl h
     where
@@ -125,25 +125,25 @@ module _ (tau : Float) (c : FitConfig) (ks ws ts : List Float) (room slots : ℕ
 
 -- ---- the weights of such an input
 
-module _ (ratio : Float) (c : FitConfig) (ks ws ts : List Float) (s : Sized c ks ws ts) where
-  weighed-now : weightsOf ratio ts ≡ weighed ratio ts
-  weighed-now = weights-are ratio ts (omega (arith, s .least, s .ts-long)) (omega (arith, s .most, s .ts-long))
+module _ (ratio : Float) (c : FitConfig) (ks ws weights : List Float) (s : Sized c ks ws weights) where
+  weighed-now : weightsOf ratio weights ≡ weighed ratio weights
+  weighed-now = weights-are ratio weights (omega (arith, s .least, s .weights-long)) (omega (arith, s .most, s .weights-long))
 
   -- of what the code holds, w
-  module _ (w : Weights) (e : w ≡ weightsOf ratio ts) where
-    pub ok-is : w .ok ≡ allGood (scaledOf ratio ts)
+  module _ (w : Weights) (e : w ≡ weightsOf ratio weights) where
+    pub ok-is : w .ok ≡ allGood (scaledOf ratio weights)
     unfolding weighed
     ok-is = ap (λ (w : Weights). w .ok) (e ∙ weighed-now)
 
-    pub cap-is : w .cap ≡ capOf ratio ts
+    pub cap-is : w .cap ≡ capOf ratio weights
     unfolding weighed
     cap-is = ap (λ (w : Weights). w .cap) (e ∙ weighed-now)
 
-    pub taken : take (length ts) (w .w) ≡ scaledOf ratio ts
-    taken = ap (λ (w : Weights). take (length ts) (w .w)) (e ∙ weighed-now) ∙ take-weighed ratio ts
+    pub taken : take (length weights) (w .w) ≡ scaledOf ratio weights
+    taken = ap (λ (w : Weights). take (length weights) (w .w)) (e ∙ weighed-now) ∙ take-weighed ratio weights
 
-    pub scaled-long : length (take (length ts) (w .w)) ≡ length ts
-    scaled-long = ap length taken ∙ scaled-length ratio ts
+    pub scaled-long : length (take (length weights) (w .w)) ≡ length weights
+    scaled-long = ap length taken ∙ scaled-length ratio weights
 
-    pub scaled-within : length ts ≤ length (w .w)
-    scaled-within = omega (arith, scaled-long, length-take (length ts) (w .w))
+    pub scaled-within : length weights ≤ length (w .w)
+    scaled-within = omega (arith, scaled-long, length-take (length weights) (w .w))

@@ -17,10 +17,10 @@ use Rattle.records.specs.Observation.{passes}
 
 -- 12: equal lengths; room for four residual numbers and one capped position an observation
 unfoldable pub lengthsHold : List Float → List Float → List Float → ℕ → ℕ → Bool
-lengthsHold ks ws ts room slots = eqb (length ks) (length ws) && eqb (length ks) (length ts) && leb (length ks * 4) room && leb (length ks) slots
+lengthsHold ks ws weights room slots = eqb (length ks) (length ws) && eqb (length ks) (length weights) && leb (length ks * 4) room && leb (length ks) slots
 
 unfoldable pub columnsPass : List Float → List Float → List Float → Bool
-columnsPass ks ws ts = for 0 (length ks) (λ i b. b && passes (at ks i) (at ws i) (at ts i)) true
+columnsPass ks ws weights = for 0 (length ks) (λ i b. b && passes (at ks i) (at ws i) (at weights i)) true
 
 -- k_min and k_max, from +infinity and -infinity
 unfoldable pub rangeOf : List Float → KRange
@@ -32,10 +32,10 @@ spanOf ks = rangeOf ks .hi -f rangeOf ks .lo
 
 -- the number of the first check before the weights that fails, or 0
 unfoldable pub checksNumber : Float → FitConfig → List Float → List Float → List Float → ℕ → ℕ → ℕ
-checksNumber tau c ks ws ts room slots =
-    unless (lengthsHold ks ws ts room slots) 12
+checksNumber tau c ks ws weights room slots =
+    unless (lengthsHold ks ws weights room slots) 12
     (unless (sizesHold (length ks) c) 11
-    (unless (columnsPass ks ws ts) 10
+    (unless (columnsPass ks ws weights) 10
     (unless (settingsHold c) 1
     (unless (positive tau) 2
     (unless (leb (c .«min_observations») (length ks)) 3
@@ -44,7 +44,7 @@ checksNumber tau c ks ws ts room slots =
 
 -- and last the scaled weights
 unfoldable pub entryNumber : Float → FitConfig → List Float → List Float → List Float → ℕ → ℕ → ℕ
-entryNumber tau c ks ws ts room slots =
-    refusing (checksNumber tau c ks ws ts room slots) (λ n. n)
-    (unless (allGood (scaledOf (c .«max_weight_ratio») ts)) 5
+entryNumber tau c ks ws weights room slots =
+    refusing (checksNumber tau c ks ws weights room slots) (λ n. n)
+    (unless (allGood (scaledOf (c .«max_weight_ratio») weights)) 5
     0)

@@ -6,11 +6,11 @@ use lib.ListN.{length}
 use lib.Ieee.{Float}
 use Rattle.records.specs.declared.FitConfig.{FitConfig}
 
-pub record Sized (c : FitConfig) (ks ws ts : List Float) : Type 0 where
+pub record Sized (c : FitConfig) (ks ws weights : List Float) : Type 0 where
   pub least : 5 ≤ length ks
   pub most : length ks ≤ 256
   pub ws-long : length ws ≡ length ks
-  pub ts-long : length ts ≡ length ks
+  pub weights-long : length weights ≡ length ks
   pub grid : c .grid ≤ 255
   pub refinements : c .refinements ≤ 1000
   pub recentres : c .«max_recentres» ≤ 1000

@@ -13,11 +13,11 @@ use Rattle.records.specs.declared.FitConfig.{FitConfig}
 use Rattle.entry.specs.Entry.{spanOf}
 
 -- 12: the lengths differ, or the room is short of four residual numbers or of one capped position an observation
-pub data UnequalOrShort (ks ws ts : List Float) (room slots : ℕ) : Type 0 where
-  unequal-w : ¬ (length ks ≡ length ws) → UnequalOrShort ks ws ts room slots
-  unequal-weight : ¬ (length ks ≡ length ts) → UnequalOrShort ks ws ts room slots
-  short-residuals : room < length ks * 4 → UnequalOrShort ks ws ts room slots
-  short-capped : slots < length ks → UnequalOrShort ks ws ts room slots
+pub data UnequalOrShort (ks ws weights : List Float) (room slots : ℕ) : Type 0 where
+  unequal-w : ¬ (length ks ≡ length ws) → UnequalOrShort ks ws weights room slots
+  unequal-weight : ¬ (length ks ≡ length weights) → UnequalOrShort ks ws weights room slots
+  short-residuals : room < length ks * 4 → UnequalOrShort ks ws weights room slots
+  short-capped : slots < length ks → UnequalOrShort ks ws weights room slots
 
 -- 11: over 256 observations, or a setting over its size
 pub data OverSize (n : ℕ) (c : FitConfig) : Type 0 where
@@ -46,14 +46,14 @@ pub data BadSettings (c : FitConfig) : Type 0 where
   ratio-off : positive (c .«max_weight_ratio») ≡ false → BadSettings c
   sigmas-not-rising : lt (c .«sigma_lo») (c .«sigma_hi») ≡ false → BadSettings c
 
-module _ (tau : Float) (c : FitConfig) (ks ws ts : List Float) (room slots : ℕ) where
+module _ (tau : Float) (c : FitConfig) (ks ws weights : List Float) (room slots : ℕ) where
   -- the entry check numbered n fails
   pub data EntryFails (n : ℕ) : Type 0 where
-    lengths : n ≡ 12 → UnequalOrShort ks ws ts room slots → EntryFails n
+    lengths : n ≡ 12 → UnequalOrShort ks ws weights room slots → EntryFails n
     sizes : n ≡ 11 → OverSize (length ks) c → EntryFails n
-    observation : n ≡ 10 → Some (length ks) (λ i. BadObservation (at ks i) (at ws i) (at ts i)) → EntryFails n
+    observation : n ≡ 10 → Some (length ks) (λ i. BadObservation (at ks i) (at ws i) (at weights i)) → EntryFails n
     settings : n ≡ 1 → BadSettings c → EntryFails n
     expiry : n ≡ 2 → positive tau ≡ false → EntryFails n
     too-few : n ≡ 3 → length ks < c .«min_observations» → EntryFails n
     no-span : n ≡ 4 → positive (spanOf ks) ≡ false → EntryFails n
-    weights : n ≡ 5 → Some (length ts) (λ i. positive (at (scaledOf (c .«max_weight_ratio») ts) i) ≡ false) → EntryFails n
+    bad-weight : n ≡ 5 → Some (length weights) (λ i. positive (at (scaledOf (c .«max_weight_ratio») weights) i) ≡ false) → EntryFails n

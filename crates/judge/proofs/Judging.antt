@@ -25,13 +25,13 @@ residual-is s k w e u v e1 e2 e3 =
     λ i. record { ok = e1 i .ok; fitted = e1 i .w; vol = e2 i -f f i }
 
 -- the lengths, from their test
-pub matched-are : (ks ws ts : List Float) → matchedOf ks ws ts ≡ true → (length ws ≡ length ks) × (length ts ≡ length ks)
+pub matched-are : (ks ws weights : List Float) → matchedOf ks ws weights ≡ true → (length ws ≡ length ks) × (length weights ≡ length ks)
 unfolding matchedOf
-matched-are ks ws ts h =
-    let p = both (eqb (length ks) (length ws)) (eqb (length ks) (length ts)) h in
+matched-are ks ws weights h =
+    let p = both (eqb (length ks) (length ws)) (eqb (length ks) (length weights)) h in
     (sym (eqb-true _ _ (p .0)), sym (eqb-true _ _ (p .1)))
 
 -- with equal lengths the sums are those of all observations
-pub sums-are : (s : SviSlice) (ks ws ts : List Float) → (length ws ≡ length ks) × (length ts ≡ length ks) → matchedSums s ks ws ts ≡ sumsOf s ks ws ts
+pub sums-are : (s : SviSlice) (ks ws weights : List Float) → (length ws ≡ length ks) × (length weights ≡ length ks) → matchedSums s ks ws weights ≡ sumsOf s ks ws weights
 unfolding matchedSums matchedOf
-sums-are s ks ws ts l = rw (eq-eqb (length ks) (length ws) (sym (l .0)), eq-eqb (length ks) (length ts) (sym (l .1)))
+sums-are s ks ws weights l = rw (eq-eqb (length ks) (length ws) (sym (l .0)), eq-eqb (length ks) (length weights) (sym (l .1)))

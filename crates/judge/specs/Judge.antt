@@ -44,17 +44,17 @@ addedTo t r w weight =
     }
 
 unfoldable pub sumsOf : SviSlice → List Float → List Float → List Float → Sums
-sumsOf s ks ws ts =
-    for 0 (length ks) (λ i t. addedTo t (residualAt s (at ks i) (at ws i)) (at ws i) (at ts i))
+sumsOf s ks ws weights =
+    for 0 (length ks) (λ i t. addedTo t (residualAt s (at ks i) (at ws i)) (at ws i) (at weights i))
     (record { ok = true; squares = +0; params = +0; weight = +0 })
 
 -- each observation has its w and its weight
 unfoldable pub matchedOf : List Float → List Float → List Float → Bool
-matchedOf ks ws ts = eqb (length ks) (length ws) && eqb (length ks) (length ts)
+matchedOf ks ws weights = eqb (length ks) (length ws) && eqb (length ks) (length weights)
 
 -- the sums; where the lengths differ nothing evaluates
 unfoldable pub matchedSums : SviSlice → List Float → List Float → List Float → Sums
-matchedSums s ks ws ts = unless (matchedOf ks ws ts) (record { ok = false; squares = +0; params = +0; weight = +0 }) (sumsOf s ks ws ts)
+matchedSums s ks ws weights = unless (matchedOf ks ws weights) (record { ok = false; squares = +0; params = +0; weight = +0 }) (sumsOf s ks ws weights)
 
 -- a_max: the largest observed w, or a_min if that is larger
 unfoldable pub highestOf : List Float → Float → Float

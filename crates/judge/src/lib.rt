@@ -72,9 +72,9 @@ fn added(t: Sums, r: Residual, w: f64, weight: f64) -> Sums
     }
 }
 
-fn summed(s: SviSlice, k: &[f64], w: &[f64], ts: &[f64]) -> Sums
-    requires { ⌜ (length (now w) ≡ length (now k)) × (length (now ts) ≡ length (now k)) ⌝ }
-    ensures { λ r. ⌜ r ≡ sumsOf s (now (k .entry)) (now (w .entry)) (now (ts .entry)) ⌝ }
+fn summed(s: SviSlice, k: &[f64], w: &[f64], weights: &[f64]) -> Sums
+    requires { ⌜ (length (now w) ≡ length (now k)) × (length (now weights) ≡ length (now k)) ⌝ }
+    ensures { λ r. ⌜ r ≡ sumsOf s (now (k .entry)) (now (w .entry)) (now (weights .entry)) ⌝ }
 {
     let mut t = Sums {
         ok: true,
@@ -83,24 +83,24 @@ fn summed(s: SviSlice, k: &[f64], w: &[f64], ts: &[f64]) -> Sums
         weight: 0.0,
     };
     for i in 0..k.len() {
-        t = added(t, residual_at(s, k[i], w[i]), w[i], ts[i]);
+        t = added(t, residual_at(s, k[i], w[i]), w[i], weights[i]);
     }
     t
 }
 
 // Each observation has its w and its weight.
-fn matched(k: &[f64], w: &[f64], ts: &[f64]) -> bool
-    ensures { λ r. ⌜ r ≡ matchedOf (now (k .entry)) (now (w .entry)) (now (ts .entry)) ⌝ }
+fn matched(k: &[f64], w: &[f64], weights: &[f64]) -> bool
+    ensures { λ r. ⌜ r ≡ matchedOf (now (k .entry)) (now (w .entry)) (now (weights .entry)) ⌝ }
 {
     let n = k.len();
-    (n == w.len()) & (n == ts.len())
+    (n == w.len()) & (n == weights.len())
 }
 
 // The sums over all observations; where their lengths differ nothing evaluates.
-pub fn sums_of(s: SviSlice, k: &[f64], w: &[f64], ts: &[f64]) -> Sums
-    ensures { λ r. ⌜ r ≡ matchedSums s (now (k .entry)) (now (w .entry)) (now (ts .entry)) ⌝ }
+pub fn sums_of(s: SviSlice, k: &[f64], w: &[f64], weights: &[f64]) -> Sums
+    ensures { λ r. ⌜ r ≡ matchedSums s (now (k .entry)) (now (w .entry)) (now (weights .entry)) ⌝ }
 {
-    let equal = matched(k, w, ts);
+    let equal = matched(k, w, weights);
     if !equal {
         return Sums {
             ok: false,
@@ -109,7 +109,7 @@ pub fn sums_of(s: SviSlice, k: &[f64], w: &[f64], ts: &[f64]) -> Sums
             weight: 0.0,
         };
     }
-    summed(s, k, w, ts)
+    summed(s, k, w, weights)
 }
 
 pub fn params_hold(config: FitConfig, a_max: f64, objective: f64, t: Sums) -> bool

@@ -41,13 +41,13 @@ module _ (tau : Float) (config : FitConfig) (qs : List Quote) (room slots : ℕ)
 
 -- the fit of what the columns took
 pub comes-to :
-    (tau : Float) (config : FitConfig) (qs : List Quote) (o : List Float) (p : List ℕ) (a : FitAnswer) (o′ : List Float) (p′ : List ℕ) (number n m : ℕ) (ks ws ts : List Float)
+    (tau : Float) (config : FitConfig) (qs : List Quote) (o : List Float) (p : List ℕ) (a : FitAnswer) (o′ : List Float) (p′ : List ℕ) (number n m : ℕ) (ks ws weights : List Float)
     → number ≡ intakeNumber config qs (length o) (length p) → number ≡ 0
-    → length qs ≡ n → m ≡ length (kept qs) → ks ≡ map kOf (kept qs) → ws ≡ map wOf (kept qs) → ts ≡ map weightOf (kept qs)
-    → Fitted tau config ks ws ts o p a o′ p′
+    → length qs ≡ n → m ≡ length (kept qs) → ks ≡ map kOf (kept qs) → ws ≡ map wOf (kept qs) → weights ≡ map weightOf (kept qs)
+    → Fitted tau config ks ws weights o p a o′ p′
     → (outcomeWith n m a ≡ quotesOutcome tau config qs (length o) (length p))
     × ((o′ ≡ written (a .number) (residualsFor (a .slice) (kept qs)) o) × (p′ ≡ written (a .number) (cappedFor config (kept qs)) p))
-comes-to tau config qs o p a o′ p′ number n m ks ws ts e z en em ek ew et f =
+comes-to tau config qs o p a o′ p′ number n m ks ws weights e z en em ek ew et f =
     let g : Fitted tau config (map kOf (kept qs)) (map wOf (kept qs)) (map weightOf (kept qs)) o p a o′ p′ = rw (ek, ew, et) at f in
     (rw (← en, em) (fitted-is tau config qs (length o) (length p) number e z a (g .answer)), (g .left, g .listed))
 

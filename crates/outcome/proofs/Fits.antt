@@ -37,21 +37,21 @@ pub residuals-long : (s : SviSlice) (ks ws : List Float) → length (residualsOf
 residuals-long s ks ws = residuals-length s ks ws
 
 -- at most one capped position for each
-pub capped-short : (ratio : Float) (ts : List Float) → length (cappedOf ratio ts) ≤ length ts
+pub capped-short : (ratio : Float) (weights : List Float) → length (cappedOf ratio weights) ≤ length weights
 unfolding cappedAt
-capped-short ratio ts =
-    for-ind _ (λ (i : ℕ) (l : List ℕ). length l ≤ i) (length ts)
-    (λ i l k h. cond-ind (λ (x : List ℕ). length x ≤ i + 1) (lt _ (at ts i)) (omega (arith, h, length-append l (i ∷ []))) (omega (arith, h)))
+capped-short ratio weights =
+    for-ind _ (λ (i : ℕ) (l : List ℕ). length l ≤ i) (length weights)
+    (λ i l k h. cond-ind (λ (x : List ℕ). length x ≤ i + 1) (lt _ (at weights i)) (omega (arith, h, length-append l (i ∷ []))) (omega (arith, h)))
     [] (omega arith)
 
 -- the count of the capped positions is how many there are
-pub capped-count : (tau : Float) (c : FitConfig) (ks ws ts : List Float) (room slots : ℕ) (a : FitAnswer) → a ≡ fitOf tau c ks ws ts room slots → a .number ≡ 0 → a .capped ≡ length (cappedOf (c .«max_weight_ratio») ts)
+pub capped-count : (tau : Float) (c : FitConfig) (ks ws weights : List Float) (room slots : ℕ) (a : FitAnswer) → a ≡ fitOf tau c ks ws weights room slots → a .number ≡ 0 → a .capped ≡ length (cappedOf (c .«max_weight_ratio») weights)
 unfolding fitOf refusedWith cappedAs
-capped-count tau c ks ws ts room slots a e z =
-    by (entryNumber tau c ks ws ts room slots) (eqb (entryNumber tau c ks ws ts room slots) 0) refl (decidedOf tau c ks ws (scaledOf (c .«max_weight_ratio») ts)) (eqb (decidedOf tau c ks ws (scaledOf (c .«max_weight_ratio») ts) .number) 0) refl e
+capped-count tau c ks ws weights room slots a e z =
+    by (entryNumber tau c ks ws weights room slots) (eqb (entryNumber tau c ks ws weights room slots) 0) refl (decidedOf tau c ks ws (scaledOf (c .«max_weight_ratio») weights)) (eqb (decidedOf tau c ks ws (scaledOf (c .«max_weight_ratio») weights) .number) 0) refl e
   where
     m : ℕ
-    m = length (cappedOf (c .«max_weight_ratio») ts)
+    m = length (cappedOf (c .«max_weight_ratio») weights)
 
     by : (entry : ℕ) (b : Bool) → eqb entry 0 ≡ b → (d : FitAnswer) (b′ : Bool) → eqb (d .number) 0 ≡ b′
         → a ≡ unless b (refusedEarly entry (length ks) (c .«min_observations»)) (unless b′ d (cappedAs d m)) → a .capped ≡ m

@@ -43,7 +43,7 @@ intake-other config qs room slots =
     (apart 11 (omega arith)))
     (apart 12 (omega arith))
 
-module _ (tau : Float) (c : FitConfig) (ks ws ts : List Float) where
+module _ (tau : Float) (c : FitConfig) (ks ws weights : List Float) where
   late-other : (us : List Float) → Other (lateNumber tau c ks ws us)
   unfolding lateNumber
   late-other us =
@@ -59,12 +59,12 @@ module _ (tau : Float) (c : FitConfig) (ks ws ts : List Float) where
       (apart 8 (omega arith))))
 
   module _ (room slots : ℕ) where
-    checks-other : Other (checksNumber tau c ks ws ts room slots)
+    checks-other : Other (checksNumber tau c ks ws weights room slots)
     unfolding checksNumber
     checks-other =
-        cond-ind Other (lengthsHold ks ws ts room slots)
+        cond-ind Other (lengthsHold ks ws weights room slots)
         (cond-ind Other (sizesHold (length ks) c)
-        (cond-ind Other (columnsPass ks ws ts)
+        (cond-ind Other (columnsPass ks ws weights)
         (cond-ind Other (settingsHold c)
         (cond-ind Other (positive tau)
         (cond-ind Other (leb (c .«min_observations») (length ks))
@@ -76,17 +76,17 @@ module _ (tau : Float) (c : FitConfig) (ks ws ts : List Float) where
         (apart 11 (omega arith)))
         (apart 12 (omega arith))
 
-    entry-other : Other (entryNumber tau c ks ws ts room slots)
+    entry-other : Other (entryNumber tau c ks ws weights room slots)
     unfolding entryNumber
     entry-other =
-        cond-ind Other (eqb (checksNumber tau c ks ws ts room slots) 0)
-        (cond-ind Other (allGood (scaledOf (c .«max_weight_ratio») ts)) (apart 0 (omega arith)) (apart 5 (omega arith)))
+        cond-ind Other (eqb (checksNumber tau c ks ws weights room slots) 0)
+        (cond-ind Other (allGood (scaledOf (c .«max_weight_ratio») weights)) (apart 0 (omega arith)) (apart 5 (omega arith)))
         checks-other
 
-    fit-other : Other (fitOf tau c ks ws ts room slots .number)
+    fit-other : Other (fitOf tau c ks ws weights room slots .number)
     fit-other h =
-        cond-ind Other (eqb (entryNumber tau c ks ws ts room slots) 0) (late-other (scaledFor c ts)) entry-other
-        (sym (answer-number tau c ks ws ts room slots) ∙ h)
+        cond-ind Other (eqb (entryNumber tau c ks ws weights room slots) 0) (late-other (scaledFor c weights)) entry-other
+        (sym (answer-number tau c ks ws weights room slots) ∙ h)
 
 pub quotes-other : (tau : Float) (config : FitConfig) (qs : List Quote) (room slots : ℕ) → quotesOutcome tau config qs room slots .fit .number ≡ 43 → ⊥
 unfolding quotesOutcome refusedWith

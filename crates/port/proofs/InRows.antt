@@ -17,16 +17,16 @@ use Rattle.rows.specs.Rows.{readConfig, fitCounts, fitValues}
 use Rattle.port.specs.FitRows.{FittedRows, fitUnder, outcomeCounts, QuotesRows, quotesUnder}
 
 pub in-rows :
-    (tau : Float) (sizes : List ℕ) (reals ks ws ts residuals : List Float) (capped : List ℕ) {c : FitConfig} {a : FitAnswer} {residuals′ : List Float} {capped′ ns : List ℕ} {vs : List Float}
-    → c ≡ readConfig sizes reals → Fitted tau c ks ws ts residuals capped a residuals′ capped′ → ns ≡ fitCounts a → vs ≡ fitValues a
-    → FittedRows tau sizes reals ks ws ts residuals capped (a .number) residuals′ capped′ ns vs (a .active)
+    (tau : Float) (sizes : List ℕ) (reals ks ws weights residuals : List Float) (capped : List ℕ) {c : FitConfig} {a : FitAnswer} {residuals′ : List Float} {capped′ ns : List ℕ} {vs : List Float}
+    → c ≡ readConfig sizes reals → Fitted tau c ks ws weights residuals capped a residuals′ capped′ → ns ≡ fitCounts a → vs ≡ fitValues a
+    → FittedRows tau sizes reals ks ws weights residuals capped (a .number) residuals′ capped′ ns vs (a .active)
 unfolding fitUnder
-in-rows tau sizes reals ks ws ts residuals capped {c} {a} h f n v =
-    let e : a ≡ fitUnder tau sizes reals ks ws ts residuals capped = f .answer ∙ ap (λ (d : FitConfig). fitOf tau d ks ws ts (length residuals) (length capped)) h in
+in-rows tau sizes reals ks ws weights residuals capped {c} {a} h f n v =
+    let e : a ≡ fitUnder tau sizes reals ks ws weights residuals capped = f .answer ∙ ap (λ (d : FitConfig). fitOf tau d ks ws weights (length residuals) (length capped)) h in
     record {
       numbered = ap (λ (b : FitAnswer). b .number) e;
       left = f .left ∙ ap (λ (b : FitAnswer). written (a .number) (residualsOf (b .slice) ks ws) residuals) e;
-      listed = f .listed ∙ ap (λ (d : FitConfig). written (a .number) (cappedOf (d .«max_weight_ratio») ts) capped) h;
+      listed = f .listed ∙ ap (λ (d : FitConfig). written (a .number) (cappedOf (d .«max_weight_ratio») weights) capped) h;
       counted = n ∙ ap fitCounts e;
       valued = v ∙ ap fitValues e;
       marked = ap (λ (b : FitAnswer). b .active) e;

@@ -17,18 +17,18 @@ use Rattle.rows.specs.Rows.{readConfig, fitCounts, fitValues}
 
 -- the fit under settings in rows, into the room that is lent
 unfoldable pub fitUnder : Float → List ℕ → List Float → List Float → List Float → List Float → List Float → List ℕ → FitAnswer
-fitUnder tau sizes reals ks ws ts residuals capped = fitOf tau (readConfig sizes reals) ks ws ts (length residuals) (length capped)
+fitUnder tau sizes reals ks ws weights residuals capped = fitOf tau (readConfig sizes reals) ks ws weights (length residuals) (length capped)
 
 -- the contract of `port_raw_fit_slice`: the number r and the rows of the answer; an accepted one writes its residuals and its capped positions, a refusal neither
 pub record FittedRows
-    (tau : Float) (sizes : List ℕ) (reals ks ws ts residuals : List Float) (capped : List ℕ)
+    (tau : Float) (sizes : List ℕ) (reals ks ws weights residuals : List Float) (capped : List ℕ)
     (r : ℕ) (residuals′ : List Float) (capped′ counts : List ℕ) (values : List Float) (active : List Bool) : Type 0 where
-  pub numbered : r ≡ fitUnder tau sizes reals ks ws ts residuals capped .number
-  pub left : residuals′ ≡ written r (residualsOf (fitUnder tau sizes reals ks ws ts residuals capped .slice) ks ws) residuals
-  pub listed : capped′ ≡ written r (cappedOf (readConfig sizes reals .«max_weight_ratio») ts) capped
-  pub counted : counts ≡ fitCounts (fitUnder tau sizes reals ks ws ts residuals capped)
-  pub valued : values ≡ fitValues (fitUnder tau sizes reals ks ws ts residuals capped)
-  pub marked : active ≡ fitUnder tau sizes reals ks ws ts residuals capped .active
+  pub numbered : r ≡ fitUnder tau sizes reals ks ws weights residuals capped .number
+  pub left : residuals′ ≡ written r (residualsOf (fitUnder tau sizes reals ks ws weights residuals capped .slice) ks ws) residuals
+  pub listed : capped′ ≡ written r (cappedOf (readConfig sizes reals .«max_weight_ratio») weights) capped
+  pub counted : counts ≡ fitCounts (fitUnder tau sizes reals ks ws weights residuals capped)
+  pub valued : values ≡ fitValues (fitUnder tau sizes reals ks ws weights residuals capped)
+  pub marked : active ≡ fitUnder tau sizes reals ks ws weights residuals capped .active
 
 -- read, kept, then the eight counts of the fit
 abbrev pub outcomeCounts : Outcome → List ℕ

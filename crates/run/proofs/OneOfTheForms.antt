@@ -70,13 +70,13 @@ columns-pass qs h =
 
 -- behind the `read` line
 abbrev fitRest : FitConfig → List Float → List Float → List Float → FitAnswer → List ℕ
-fitRest c ks ws ts a =
+fitRest c ks ws weights a =
     unless (eqb (a .number) 0) (refusalText a)
-    (figuresText a ++ (cappedLine (cappedOf (c .«max_weight_ratio») ts) ++ pointLines (residualsOf (a .slice) ks ws)))
+    (figuresText a ++ (cappedLine (cappedOf (c .«max_weight_ratio») weights) ++ pointLines (residualsOf (a .slice) ks ws)))
 
-module _ (read kept : ℕ) (tau : Float) (c : FitConfig) (ks ws ts : List Float) (long : length ks ≡ kept) where
+module _ (read kept : ℕ) (tau : Float) (c : FitConfig) (ks ws weights : List Float) (long : length ks ≡ kept) where
   abbrev P : FitAnswer → Type 0
-  P a = Form (readLine read kept ++ fitRest c ks ws ts a)
+  P a = Form (readLine read kept ++ fitRest c ks ws weights a)
 
   -- an entry check that fails
   abbrev Early : ℕ → Type 0
@@ -105,8 +105,8 @@ module _ (read kept : ℕ) (tau : Float) (c : FitConfig) (ks ws ts : List Float)
   unfolding refusalText refusedOf refusedWith
   early-5 h = entry 5 read kept refl
 
-  module _ (room slots : ℕ) (lengths : lengthsHold ks ws ts room slots ≡ true) (sizes : sizesHold (length ks) c ≡ true) (observations : columnsPass ks ws ts ≡ true) where
-    first : Early (checksNumber tau c ks ws ts room slots)
+  module _ (room slots : ℕ) (lengths : lengthsHold ks ws weights room slots ≡ true) (sizes : sizesHold (length ks) c ≡ true) (observations : columnsPass ks ws weights ≡ true) where
+    first : Early (checksNumber tau c ks ws weights room slots)
     unfolding checksNumber
     first =
         rw (lengths, sizes, observations)
@@ -118,9 +118,9 @@ module _ (read kept : ℕ) (tau : Float) (c : FitConfig) (ks ws ts : List Float)
         early-2)
         early-1)
 
-    early : Early (entryNumber tau c ks ws ts room slots)
+    early : Early (entryNumber tau c ks ws weights room slots)
     unfolding entryNumber
-    early = cond-ind Early (eqb (checksNumber tau c ks ws ts room slots) 0) (cond-ind Early (allGood (scaledOf (c .«max_weight_ratio») ts)) early-0 early-5) first
+    early = cond-ind Early (eqb (checksNumber tau c ks ws weights room slots) 0) (cond-ind Early (allGood (scaledOf (c .«max_weight_ratio») weights)) early-0 early-5) first
 
   -- what the end of the fit decided, with m capped where it accepted
   abbrev Late : ℕ → FitAnswer → Type 0
@@ -173,13 +173,13 @@ module _ (read kept : ℕ) (tau : Float) (c : FitConfig) (ks ws ts : List Float)
   outcome r true e f a p = p
   outcome r false e f a p = f e
 
-  fit-form : (room slots : ℕ) → lengthsHold ks ws ts room slots ≡ true → sizesHold (length ks) c ≡ true → columnsPass ks ws ts ≡ true → P (fitOf tau c ks ws ts room slots)
+  fit-form : (room slots : ℕ) → lengthsHold ks ws weights room slots ≡ true → sizesHold (length ks) c ≡ true → columnsPass ks ws weights ≡ true → P (fitOf tau c ks ws weights room slots)
   unfolding fitOf
   fit-form room slots x y z =
-      let us = scaledOf (c .«max_weight_ratio») ts in
+      let us = scaledOf (c .«max_weight_ratio») weights in
       let d = decidedOf tau c ks ws us in
-      let m = length (cappedOf (c .«max_weight_ratio») ts) in
-      outcome (entryNumber tau c ks ws ts room slots) _ refl (early room slots x y z) _ (choice d m _ refl (late m us))
+      let m = length (cappedOf (c .«max_weight_ratio») weights) in
+      outcome (entryNumber tau c ks ws weights room slots) _ refl (early room slots x y z) _ (choice d m _ refl (late m us))
 
 -- ---- the forms of a file's answer
 

@@ -18,28 +18,28 @@ use Rattle.cell.proofs.Cells.{fit-faces, cell-finite, cell-least, cell-first}
 use Rattle.search.specs.Promised.{ChosenFrom}
 use Rattle.search.specs.Run.{fitCell, fitFace}
 
-module _ (ks ws ts : List Float) (l : Limits) where
-  pub fit-most : (m ls : Float) → fitCell ks ws ts l m ls .faces ≤ 64
+module _ (ks ws weights : List Float) (l : Limits) where
+  pub fit-most : (m ls : Float) → fitCell ks ws weights l m ls .faces ≤ 64
   unfolding fitCell innerOf
   fit-most m ls =
-      cond-ind (λ (c : Cell). c .faces ≤ 64) (inRange ks ws ts)
-      (⊎-elim (λ e. omega (arith, e)) (λ e. omega (arith, e)) (fit-faces ks ws ts l m (expOf ls))) (omega arith)
+      cond-ind (λ (c : Cell). c .faces ≤ 64) (inRange ks ws weights)
+      (⊎-elim (λ e. omega (arith, e)) (λ e. omega (arith, e)) (fit-faces ks ws weights l m (expOf ls))) (omega arith)
 
   -- observations in range: it is the cell at (m, sigma)
-  fit-is : inRange ks ws ts ≡ true → (m ls : Float) → cellOf fitModel ks ws ts l m (expOf ls) ≡ fitCell ks ws ts l m ls
+  fit-is : inRange ks ws weights ≡ true → (m ls : Float) → cellOf fitModel ks ws weights l m (expOf ls) ≡ fitCell ks ws weights l m ls
   unfolding fitCell innerOf
   fit-is e m ls = if-true noCell e refl
 
   -- what holds of that cell holds of the fit's
-  as-fit : inRange ks ws ts ≡ true → (P : Cell → Type 0) (m ls : Float) → P (cellOf fitModel ks ws ts l m (expOf ls)) → P (fitCell ks ws ts l m ls)
+  as-fit : inRange ks ws weights ≡ true → (P : Cell → Type 0) (m ls : Float) → P (cellOf fitModel ks ws weights l m (expOf ls)) → P (fitCell ks ws weights l m ls)
   as-fit e P m ls = subst P (fit-is e m ls)
 
-  pub fit-chosen : inRange ks ws ts ≡ true → ChosenFrom (fitCell ks ws ts l) (fitFace ks ws ts l) 64
+  pub fit-chosen : inRange ks ws weights ≡ true → ChosenFrom (fitCell ks ws weights l) (fitFace ks ws weights l) 64
   unfolding fitFace
   fit-chosen e =
       record {
-        tries = λ m ls. as-fit e (λ (c : Cell). (c .faces ≡ 1) ⊎ (c .faces ≡ 64)) m ls (fit-faces ks ws ts l m (expOf ls));
-        finite-objective = λ m ls. as-fit e (λ (c : Cell). T (c .some) → finite (c .objective) ≡ true) m ls (cell-finite fitModel ks ws ts l m (expOf ls));
-        beats = λ m ls. as-fit e (λ (c : Cell). (t : ℕ) → t < c .faces → Beats (faceTried fitModel ks ws ts l m (expOf ls)) c t) m ls (cell-least fitModel ks ws ts l m (expOf ls));
-        first = λ m ls. as-fit e (λ (c : Cell). T (c .some) → (t : ℕ) × First (faceTried fitModel ks ws ts l m (expOf ls)) c t) m ls (cell-first fitModel ks ws ts l m (expOf ls));
+        tries = λ m ls. as-fit e (λ (c : Cell). (c .faces ≡ 1) ⊎ (c .faces ≡ 64)) m ls (fit-faces ks ws weights l m (expOf ls));
+        finite-objective = λ m ls. as-fit e (λ (c : Cell). T (c .some) → finite (c .objective) ≡ true) m ls (cell-finite fitModel ks ws weights l m (expOf ls));
+        beats = λ m ls. as-fit e (λ (c : Cell). (t : ℕ) → t < c .faces → Beats (faceTried fitModel ks ws weights l m (expOf ls)) c t) m ls (cell-least fitModel ks ws weights l m (expOf ls));
+        first = λ m ls. as-fit e (λ (c : Cell). T (c .some) → (t : ℕ) × First (faceTried fitModel ks ws weights l m (expOf ls)) c t) m ls (cell-first fitModel ks ws weights l m (expOf ls));
       }

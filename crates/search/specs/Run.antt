@@ -16,11 +16,11 @@ use Rattle.search.specs.Promised.{FaceFn}
 
 -- the cell of the fit at (m, ln sigma), over observations k, w and scaled weights t
 unfoldable pub fitCell : List Float → List Float → List Float → Limits → CellFn
-fitCell ks ws ts l m ls = innerOf ks ws ts l m (expOf ls)
+fitCell ks ws weights l m ls = innerOf ks ws weights l m (expOf ls)
 
 -- face t of that cell, tried
 unfoldable pub fitFace : List Float → List Float → List Float → Limits → FaceFn
-fitFace ks ws ts l m ls t = faceTried fitModel ks ws ts l m (expOf ls) t
+fitFace ks ws weights l m ls t = faceTried fitModel ks ws weights l m (expOf ls) t
 
 -- the sizes of document 01
 unfoldable pub planSizesHold : Plan → Bool
@@ -28,4 +28,4 @@ planSizesHold p = leb (p .n) 255 && (leb (p .refinements) 1000 && leb (p .«max_
 
 -- `run`; over a size nothing is searched
 unfoldable pub plannedSearch : List Float → List Float → List Float → Limits → Plan → Search
-plannedSearch ks ws ts l p = unless (planSizesHold p) (startOf p) (searchOf (fitCell ks ws ts l) p)
+plannedSearch ks ws weights l p = unless (planSizesHold p) (startOf p) (searchOf (fitCell ks ws weights l) p)

@@ -28,7 +28,7 @@ fn fill_sigmas(a: Axis, n: usize, sigmas: &mut [f64; 256])
 fn cell_at(
     ks: &[f64],
     ws: &[f64],
-    ts: &[f64],
+    weights: &[f64],
     l: Limits,
     m: f64,
     sigma: f64,
@@ -36,9 +36,9 @@ fn cell_at(
     hs: &mut [f64; 256],
 ) -> Cell
     requires { ⌜ (length (now ys) ≡ 256) × (length (now hs) ≡ 256) ⌝ }
-    ensures { λ r. ⌜ (r ≡ innerOf (now (ks .entry)) (now (ws .entry)) (now (ts .entry)) l m sigma) × (length (now (ys .exit)) ≡ 256) × (length (now (hs .exit)) ≡ 256) ⌝ }
+    ensures { λ r. ⌜ (r ≡ innerOf (now (ks .entry)) (now (ws .entry)) (now (weights .entry)) l m sigma) × (length (now (ys .exit)) ≡ 256) × (length (now (hs .exit)) ≡ 256) ⌝ }
 {
-    cell::inner_on(ks, ws, ts, l, m, sigma, ys, hs)
+    cell::inner_on(ks, ws, weights, l, m, sigma, ys, hs)
 }
 
 fn better_than(c: Cell, b: Cell) -> bool
@@ -77,7 +77,7 @@ fn considered(b: PassBest, c: Cell, i: usize, j: usize) -> PassBest
 fn row(
     ks: &[f64],
     ws: &[f64],
-    ts: &[f64],
+    weights: &[f64],
     l: Limits,
     w: Window,
     n: usize,
@@ -88,12 +88,12 @@ fn row(
     b: PassBest,
 ) -> PassBest
     requires { ⌜ (n ≤ 255) × (b .cells < 2 ^ 50) × (b .faces < 2 ^ 50) × (now sigmas ≡ sigmasOf (w .s) n) × (length (now ys) ≡ 256) × (length (now hs) ≡ 256) ⌝ }
-    ensures { λ r. ⌜ (r ≡ gridRow (fitCell (now (ks .entry)) (now (ws .entry)) (now (ts .entry)) l) w n i b) × (length (now (ys .exit)) ≡ 256) × (length (now (hs .exit)) ≡ 256) ⌝ }
+    ensures { λ r. ⌜ (r ≡ gridRow (fitCell (now (ks .entry)) (now (ws .entry)) (now (weights .entry)) l) w n i b) × (length (now (ys .exit)) ≡ 256) × (length (now (hs .exit)) ≡ 256) ⌝ }
 {
     let m = points::linspace_at(w.m.lo, w.m.hi, n, i);
     let mut best = b;
     for j in 0..n {
-        let c = cell_at(ks, ws, ts, l, m, sigmas[j], ys, hs);
+        let c = cell_at(ks, ws, weights, l, m, sigmas[j], ys, hs);
         best = considered(best, c, i, j);
     }
     best
@@ -112,9 +112,16 @@ pub(crate) fn no_cell() -> Cell
 }
 
 // The whole grid, m outside and ln sigma inside.
-pub(crate) fn pass(ks: &[f64], ws: &[f64], ts: &[f64], l: Limits, w: Window, n: usize) -> PassBest
+pub(crate) fn pass(
+    ks: &[f64],
+    ws: &[f64],
+    weights: &[f64],
+    l: Limits,
+    w: Window,
+    n: usize,
+) -> PassBest
     requires { ⌜ n ≤ 255 ⌝ }
-    ensures { λ r. ⌜ r ≡ passOf (fitCell (now (ks .entry)) (now (ws .entry)) (now (ts .entry)) l) w n ⌝ }
+    ensures { λ r. ⌜ r ≡ passOf (fitCell (now (ks .entry)) (now (ws .entry)) (now (weights .entry)) l) w n ⌝ }
 {
     let none = no_cell();
     let mut best = PassBest {
@@ -129,7 +136,7 @@ pub(crate) fn pass(ks: &[f64], ws: &[f64], ts: &[f64], l: Limits, w: Window, n: 
     let mut hs = [0.0; 256];
     fill_sigmas(w.s, n, &mut sigmas);
     for i in 0..n {
-        best = row(ks, ws, ts, l, w, n, &sigmas, &mut ys, &mut hs, i, best);
+        best = row(ks, ws, weights, l, w, n, &sigmas, &mut ys, &mut hs, i, best);
     }
     best
 }

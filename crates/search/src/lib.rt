@@ -43,11 +43,11 @@ fn refuse(s: Search, n: Counts) -> Search
 }
 
 // One pass and the move after it. A pass with no face refuses, whatever was found before.
-fn step(ks: &[f64], ws: &[f64], ts: &[f64], l: Limits, p: Plan, s: Search) -> Search
+fn step(ks: &[f64], ws: &[f64], weights: &[f64], l: Limits, p: Plan, s: Search) -> Search
     requires { ⌜ Roomy p s ⌝ }
-    ensures { λ r. ⌜ r ≡ stepOf (fitCell (now (ks .entry)) (now (ws .entry)) (now (ts .entry)) l) p s ⌝ }
+    ensures { λ r. ⌜ r ≡ stepOf (fitCell (now (ks .entry)) (now (ws .entry)) (now (weights .entry)) l) p s ⌝ }
 {
-    let b = grid::pass(ks, ws, ts, l, s.window, p.n);
+    let b = grid::pass(ks, ws, weights, l, s.window, p.n);
     let n = counted(s.counts, b);
     if b.cell.some {
         return moves::moved(p, s, n, b);
@@ -83,9 +83,9 @@ fn start(p: Plan) -> Search
 }
 
 // Passes until the search ends, or there were as many as the settings allow.
-fn searched(ks: &[f64], ws: &[f64], ts: &[f64], l: Limits, p: Plan) -> Search
+fn searched(ks: &[f64], ws: &[f64], weights: &[f64], l: Limits, p: Plan) -> Search
     requires { ⌜ planSizesHold p ≡ true ⌝ }
-    ensures { λ r. ⌜ r ≡ searchOf (fitCell (now (ks .entry)) (now (ws .entry)) (now (ts .entry)) l) p ⌝ }
+    ensures { λ r. ⌜ r ≡ searchOf (fitCell (now (ks .entry)) (now (ws .entry)) (now (weights .entry)) l) p ⌝ }
 {
     let limit = p.refinements + 2 * p.max_recentres + 1;
     let mut s = start(p);
@@ -93,7 +93,7 @@ fn searched(ks: &[f64], ws: &[f64], ts: &[f64], l: Limits, p: Plan) -> Search
         if !s.going {
             return s;
         }
-        s = step(ks, ws, ts, l, p, s);
+        s = step(ks, ws, weights, l, p, s);
     }
     s
 }
@@ -105,12 +105,12 @@ fn sizes_hold(p: Plan) -> bool
 }
 
 // The search of the fit; over a size nothing is searched.
-pub fn run(ks: &[f64], ws: &[f64], ts: &[f64], l: Limits, p: Plan) -> Search
-    ensures { λ r. ⌜ r ≡ plannedSearch (now (ks .entry)) (now (ws .entry)) (now (ts .entry)) l p ⌝ }
+pub fn run(ks: &[f64], ws: &[f64], weights: &[f64], l: Limits, p: Plan) -> Search
+    ensures { λ r. ⌜ r ≡ plannedSearch (now (ks .entry)) (now (ws .entry)) (now (weights .entry)) l p ⌝ }
 {
     let sized = sizes_hold(p);
     if !sized {
         return start(p);
     }
-    searched(ks, ws, ts, l, p)
+    searched(ks, ws, weights, l, p)
 }

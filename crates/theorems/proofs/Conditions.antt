@@ -34,9 +34,9 @@ use Rattle.judge.specs.When as judge
 
 -- ---- 6
 
-module _ (c : FitConfig) (ks ws ts : List Float) where
+module _ (c : FitConfig) (ks ws weights : List Float) where
   abbrev cells : CellFn
-  cells = fitCell ks ws ts (limitsFor c ws)
+  cells = fitCell ks ws weights (limitsFor c ws)
 
   abbrev plan : Plan
   plan = planFor c ks
@@ -45,13 +45,13 @@ module _ (c : FitConfig) (ks ws ts : List Float) where
   none-there true h = absurd (h tt)
   none-there false h = refl
 
-  pub search-fails : fitSearch c ks ws ts .refused ≡ true → FacelessPass c ks ws ts
+  pub search-fails : fitSearch c ks ws weights .refused ≡ true → FacelessPass c ks ws weights
   unfolding fitSearch planOf
   search-fails h =
       let r = refusal cells plan (limitOf plan) h in
       (r .pass, omega (arith, r .last), λ i j l m. none-there _ (r .none i l j m))
 
-  pub search-refutes : fitSearch c ks ws ts .refused ≡ false → FacelessPass c ks ws ts → ⊥
+  pub search-refutes : fitSearch c ks ws weights .refused ≡ false → FacelessPass c ks ws weights → ⊥
   unfolding fitSearch planOf
   search-refutes h s =
       let w = afterPasses cells plan (s .0) .window in
@@ -69,7 +69,7 @@ no-reading (evaluated.Refused n) h = (n, refl)
 refused-reading : (e : Evaluated) (n : ℕ) → e ≡ evaluated.Refused n → readingOf e .ok ≡ false
 refused-reading e n h = ap (λ (e : Evaluated). readingOf e .ok) h
 
-module _ (s : SviSlice) (ks ws ts : List Float) where
+module _ (s : SviSlice) (ks ws weights : List Float) where
   abbrev reads : ℕ → Bool
   reads i = readingOf (evalRaw s (at ks i)) .ok
 
@@ -77,7 +77,7 @@ module _ (s : SviSlice) (ks ws ts : List Float) where
   zeros = record { ok = true; squares = +0; params = +0; weight = +0 }
 
   step : ℕ → Sums → Sums
-  step i t = addedTo t (residualAt s (at ks i) (at ws i)) (at ws i) (at ts i)
+  step i t = addedTo t (residualAt s (at ks i) (at ws i)) (at ws i) (at weights i)
 
   -- the sums are good where every reading is
   along : (k i : ℕ) (t : Sums) (b : Bool) → t .ok ≡ b → turns step k i t .ok ≡ turns (λ i b. b && reads i) k i b
@@ -85,53 +85,53 @@ module _ (s : SviSlice) (ks ws ts : List Float) where
   along zero i t b e = e
   along (suc k) i t b e = along k (i + 1) (step i t) (b && reads i) (ap (λ (b : Bool). b && reads i) e)
 
-  sums-ok : sumsOf s ks ws ts .ok ≡ for 0 (length ks) (λ i b. b && reads i) true
+  sums-ok : sumsOf s ks ws weights .ok ≡ for 0 (length ks) (λ i b. b && reads i) true
   unfolding sumsOf step
   sums-ok = along (length ks - 0) 0 zeros true refl
 
-module _ (c : FitConfig) (s : SviSlice) (ks ws ts : List Float) («a_max» objective : Float) where
+module _ (c : FitConfig) (s : SviSlice) (ks ws weights : List Float) («a_max» objective : Float) where
   abbrev bound : Float
-  bound = objective +f (f64 0x3e11_2e0b_e826_d695 *f objective +f c .«feasibility_tolerance» *f judge.totalWeight s ks ws ts *f «a_max» *f «a_max»)
+  bound = objective +f (f64 0x3e11_2e0b_e826_d695 *f objective +f c .«feasibility_tolerance» *f judge.totalWeight s ks ws weights *f «a_max» *f «a_max»)
 
-  pub slice-fails : eqb (numberOf s) 0 ≡ false → OutOfDomain c s ks ws ts «a_max» objective
+  pub slice-fails : eqb (numberOf s) 0 ≡ false → OutOfDomain c s ks ws weights «a_max» objective
   slice-fails h = judge.bad-slice (eqb-false _ _ h)
 
-  pub params-fail : paramsHold c «a_max» objective (sumsOf s ks ws ts) ≡ false → OutOfDomain c s ks ws ts «a_max» objective
+  pub params-fail : paramsHold c «a_max» objective (sumsOf s ks ws weights) ≡ false → OutOfDomain c s ks ws weights «a_max» objective
   unfolding paramsHold
   params-fail h =
-      split (sumsOf s ks ws ts .ok && finite (judge.paramsOf s ks ws ts)) (le (judge.paramsOf s ks ws ts) bound) h
-      (λ h. split (sumsOf s ks ws ts .ok) (finite (judge.paramsOf s ks ws ts)) h
-      (λ e. let t = some-fails (reads s ks ws ts) (length ks) (sym (sums-ok s ks ws ts) ∙ e) in let r = no-reading _ (t .2) in judge.no-value (t .0) (r .0) (t .1) (r .1))
+      split (sumsOf s ks ws weights .ok && finite (judge.paramsOf s ks ws weights)) (le (judge.paramsOf s ks ws weights) bound) h
+      (λ h. split (sumsOf s ks ws weights .ok) (finite (judge.paramsOf s ks ws weights)) h
+      (λ e. let t = some-fails (reads s ks ws weights) (length ks) (sym (sums-ok s ks ws weights) ∙ e) in let r = no-reading _ (t .2) in judge.no-value (t .0) (r .0) (t .1) (r .1))
       judge.params-not-finite)
       judge.params-above
 
-  pub domain-refutes : eqb (numberOf s) 0 ≡ true → paramsHold c «a_max» objective (sumsOf s ks ws ts) ≡ true → OutOfDomain c s ks ws ts «a_max» objective → ⊥
+  pub domain-refutes : eqb (numberOf s) 0 ≡ true → paramsHold c «a_max» objective (sumsOf s ks ws weights) ≡ true → OutOfDomain c s ks ws weights «a_max» objective → ⊥
   unfolding paramsHold
   domain-refutes g h =
-      let p = both (sumsOf s ks ws ts .ok && finite (judge.paramsOf s ks ws ts)) (le (judge.paramsOf s ks ws ts) bound) h in
-      let q = both (sumsOf s ks ws ts .ok) (finite (judge.paramsOf s ks ws ts)) (p .0) in
+      let p = both (sumsOf s ks ws weights .ok && finite (judge.paramsOf s ks ws weights)) (le (judge.paramsOf s ks ws weights) bound) h in
+      let q = both (sumsOf s ks ws weights .ok) (finite (judge.paramsOf s ks ws weights)) (p .0) in
       elim [
         | judge.bad-slice f ↦ f (eqb-true _ _ g)
-        | judge.no-value i n l e ↦ off (refused-reading _ n e) (none-fails (reads s ks ws ts) (length ks) (sym (sums-ok s ks ws ts) ∙ q .0) i l)
+        | judge.no-value i n l e ↦ off (refused-reading _ n e) (none-fails (reads s ks ws weights) (length ks) (sym (sums-ok s ks ws weights) ∙ q .0) i l)
         | judge.params-not-finite e ↦ off e (q .1)
         | judge.params-above e ↦ off e (p .1)
       ]
 
 -- ---- 9
 
-module _ (c : FitConfig) (s : SviSlice) (ks ws ts : List Float) where
+module _ (c : FitConfig) (s : SviSlice) (ks ws weights : List Float) where
   abbrev r : Float
-  r = rmseAt s ks ws ts
+  r = rmseAt s ks ws weights
 
-  pub rmse-fails : settingsHold c ≡ true → rmseHolds c r ≡ false → RmseAboveMax c s ks ws ts
+  pub rmse-fails : settingsHold c ≡ true → rmseHolds c r ≡ false → RmseAboveMax c s ks ws weights
   unfolding rmseHolds
   rmse-fails g h = go (finite r) refl h
     where
-      go : (x : Bool) → finite r ≡ x → (x && le r (c .«max_rmse_vol»)) ≡ false → RmseAboveMax c s ks ws ts
+      go : (x : Bool) → finite r ≡ x → (x && le r (c .«max_rmse_vol»)) ≡ false → RmseAboveMax c s ks ws weights
       go true e h = judge.rmse-above (below (c .«max_rmse_vol») r (max-finite c g) e h)
       go false e h = judge.rmse-not-finite e
 
-  pub rmse-refutes : rmseHolds c r ≡ true → RmseAboveMax c s ks ws ts → ⊥
+  pub rmse-refutes : rmseHolds c r ≡ true → RmseAboveMax c s ks ws weights → ⊥
   unfolding rmseHolds
   rmse-refutes h =
       let p = both (finite r) (le r (c .«max_rmse_vol»)) h in

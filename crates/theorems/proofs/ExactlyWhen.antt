@@ -52,44 +52,44 @@ turn-below m l = go (leb 10 m) refl
     go true e = omega arith
     go false e = let k = leb-false 10 m e in omega arith
 
-module _ (tau : Float) (c : FitConfig) (ks ws ts : List Float) (room slots : ℕ) where
+module _ (tau : Float) (c : FitConfig) (ks ws weights : List Float) (room slots : ℕ) where
   -- the condition of refusal n holds; none asked before n does; the answer's number
   abbrev pub Fails : ℕ → Type 0
-  Fails = when.Fails tau c ks ws ts room slots
+  Fails = when.Fails tau c ks ws weights room slots
 
   abbrev pub NoneBefore : ℕ → Type 0
-  NoneBefore = when.NoneBefore tau c ks ws ts room slots
+  NoneBefore = when.NoneBefore tau c ks ws weights room slots
 
   abbrev pub number : ℕ
-  number = fitOf tau c ks ws ts room slots .number
+  number = fitOf tau c ks ws weights room slots .number
 
   -- the scaled weights, and the slice that the fit tries
   abbrev pub scaled : List Float
-  scaled = scaledFor c ts
+  scaled = scaledFor c weights
 
   abbrev pub tried : SviSlice
-  tried = when.tried tau c ks ws ts room slots
+  tried = when.tried tau c ks ws weights room slots
 
   -- ---- one by one
 
   -- the condition of refusal n
   abbrev Own : ℕ → Type 0
   Own n =
-      cond (eqb n 12) (UnequalOrShort ks ws ts room slots)
+      cond (eqb n 12) (UnequalOrShort ks ws weights room slots)
       (cond (eqb n 11) (OverSize (length ks) c)
-      (cond (eqb n 10) (Some (length ks) (λ i. BadObservation (at ks i) (at ws i) (at ts i)))
+      (cond (eqb n 10) (Some (length ks) (λ i. BadObservation (at ks i) (at ws i) (at weights i)))
       (cond (eqb n 1) (BadSettings c)
       (cond (eqb n 2) (positive tau ≡ false)
       (cond (eqb n 3) (length ks < c .«min_observations»)
       (cond (eqb n 4) (positive (spanOf ks) ≡ false)
-      (cond (eqb n 5) (Some (length ts) (λ i. positive (at scaled i) ≡ false))
+      (cond (eqb n 5) (Some (length weights) (λ i. positive (at scaled i) ≡ false))
       (cond (eqb n 6) (FacelessPass c ks ws scaled)
       (cond (eqb n 7) (OnEdge c ks ws scaled)
-      (cond (eqb n 8) (OutOfDomain c tried ks ws scaled (aMaxFor c ws) (searchFor c ks ws ts .found .cell .objective))
+      (cond (eqb n 8) (OutOfDomain c tried ks ws scaled (aMaxFor c ws) (searchFor c ks ws weights .found .cell .objective))
       (cond (eqb n 9) (RmseAboveMax c tried ks ws scaled)
       ⊥)))))))))))
 
-  entry-own : (n : ℕ) → EntryFails tau c ks ws ts room slots n → Own n
+  entry-own : (n : ℕ) → EntryFails tau c ks ws weights room slots n → Own n
   entry-own n =
       elim [
         | entry.lengths e p ↦ subst Own (sym e) p
@@ -99,7 +99,7 @@ module _ (tau : Float) (c : FitConfig) (ks ws ts : List Float) (room slots : ℕ
         | entry.expiry e p ↦ subst Own (sym e) p
         | entry.too-few e p ↦ subst Own (sym e) p
         | entry.no-span e p ↦ subst Own (sym e) p
-        | entry.weights e p ↦ subst Own (sym e) p
+        | entry.bad-weight e p ↦ subst Own (sym e) p
       ]
 
   own : (n : ℕ) → Fails n → Own n
@@ -113,7 +113,7 @@ module _ (tau : Float) (c : FitConfig) (ks ws ts : List Float) (room slots : ℕ
       ]
 
   -- a condition's number is one of 1 to 12
-  entry-ranged : (n : ℕ) → EntryFails tau c ks ws ts room slots n → (1 ≤ n) × (n ≤ 12)
+  entry-ranged : (n : ℕ) → EntryFails tau c ks ws weights room slots n → (1 ≤ n) × (n ≤ 12)
   entry-ranged n =
       elim [
         | entry.lengths e p ↦ (omega arith, omega arith)
@@ -123,7 +123,7 @@ module _ (tau : Float) (c : FitConfig) (ks ws ts : List Float) (room slots : ℕ
         | entry.expiry e p ↦ (omega arith, omega arith)
         | entry.too-few e p ↦ (omega arith, omega arith)
         | entry.no-span e p ↦ (omega arith, omega arith)
-        | entry.weights e p ↦ (omega arith, omega arith)
+        | entry.bad-weight e p ↦ (omega arith, omega arith)
       ]
 
   ranged : (n : ℕ) → Fails n → (1 ≤ n) × (n ≤ 12)
@@ -155,15 +155,15 @@ module _ (tau : Float) (c : FitConfig) (ks ws ts : List Float) (room slots : ℕ
   abbrev Told : ℕ → ℕ → Type 0
   Told k n = ((n ≡ 0) × Clear k) ⊎ (Fails n × Clear (turn n))
 
-  checks-told : Told 7 (checksNumber tau c ks ws ts room slots)
+  checks-told : Told 7 (checksNumber tau c ks ws weights room slots)
   unfolding checksNumber
   checks-told =
-      cond-test (Told 7) (lengthsHold ks ws ts room slots)
-      (λ e. let c1 = next 0 (test.lengths-refute ks ws ts room slots e) none-yet in
+      cond-test (Told 7) (lengthsHold ks ws weights room slots)
+      (λ e. let c1 = next 0 (test.lengths-refute ks ws weights room slots e) none-yet in
       cond-test (Told 7) (sizesHold (length ks) c)
       (λ e. let c2 = next 1 (test.sizes-refute (length ks) c e) c1 in
-      cond-test (Told 7) (columnsPass ks ws ts)
-      (λ e. let c3 = next 2 (test.observations-refute ks ws ts e) c2 in
+      cond-test (Told 7) (columnsPass ks ws weights)
+      (λ e. let c3 = next 2 (test.observations-refute ks ws weights e) c2 in
       cond-test (Told 7) (settingsHold c)
       (λ e. let c4 = next 3 (test.settings-refute c e) c3 in
       cond-test (Told 7) (positive tau)
@@ -176,9 +176,9 @@ module _ (tau : Float) (c : FitConfig) (ks ws ts : List Float) (room slots : ℕ
       (λ h. inr (when.at-entry (entry.too-few refl (leb-false _ _ h)), c5)))
       (λ h. inr (when.at-entry (entry.expiry refl h), c4)))
       (λ h. inr (when.at-entry (entry.settings refl (test.settings-fail c h)), c3)))
-      (λ h. inr (when.at-entry (entry.observation refl (test.observations-fail ks ws ts h)), c2)))
+      (λ h. inr (when.at-entry (entry.observation refl (test.observations-fail ks ws weights h)), c2)))
       (λ h. inr (when.at-entry (entry.sizes refl (test.sizes-fail (length ks) c h)), c1)))
-      (λ h. inr (when.at-entry (entry.lengths refl (test.lengths-fail ks ws ts room slots h)), none-yet))
+      (λ h. inr (when.at-entry (entry.lengths refl (test.lengths-fail ks ws weights room slots h)), none-yet))
 
   -- a number that is handed on, and what is asked after it
   joined : (j k m rest : ℕ) → Told j m → (Clear j → Told k rest) → Told k (unless (eqb m 0) m rest)
@@ -188,14 +188,14 @@ module _ (tau : Float) (c : FitConfig) (ks ws ts : List Float) (room slots : ℕ
       (λ (h : Fails m × Clear (turn m)). subst (λ (t : Bool). Told k (cond t rest m)) (sym (ne-eqb m 0 (λ z. let r = ranged m (h .0) .0 in omega arith))) (inr h))
       told
 
-  entry-told : Told 8 (entryNumber tau c ks ws ts room slots)
+  entry-told : Told 8 (entryNumber tau c ks ws weights room slots)
   unfolding entryNumber
   entry-told =
-      joined 7 8 (checksNumber tau c ks ws ts room slots) _ checks-told
+      joined 7 8 (checksNumber tau c ks ws weights room slots) _ checks-told
       (λ c7.
       cond-test (Told 8) (allGood scaled)
-      (λ e. inl (refl, next 7 (test.weights-refute (c .«max_weight_ratio») ts e) c7))
-      (λ h. inr (when.at-entry (entry.weights refl (test.weights-fail (c .«max_weight_ratio») ts h)), c7)))
+      (λ e. inl (refl, next 7 (test.weights-refute (c .«max_weight_ratio») weights e) c7))
+      (λ h. inr (when.at-entry (entry.bad-weight refl (test.weights-fail (c .«max_weight_ratio») weights h)), c7)))
 
   settings-hold : Clear 8 → settingsHold c ≡ true
   settings-hold all = go (settingsHold c) refl
@@ -208,11 +208,11 @@ module _ (tau : Float) (c : FitConfig) (ks ws ts : List Float) (room slots : ℕ
   unfolding lateNumber
   late-told c8 =
       let high = aMaxFor c ws in
-      let o = searchFor c ks ws ts .found .cell .objective in
-      cond-test (Told 12) (searchFor c ks ws ts .refused)
+      let o = searchFor c ks ws weights .found .cell .objective in
+      cond-test (Told 12) (searchFor c ks ws weights .refused)
       (λ h. inr (when.no-face refl (late.search-fails c ks ws scaled h), c8))
       (λ e. let c9 = next 8 (late.search-refutes c ks ws scaled e) c8 in
-      cond-test (Told 12) (searchFor c ks ws ts .found .«on_edge»)
+      cond-test (Told 12) (searchFor c ks ws weights .found .«on_edge»)
       (λ h. inr (when.on-edge refl h, c9))
       (λ e. let c10 = next 9 (λ h. off e h) c9 in
       cond-test (Told 12) (eqb (numberOf tried) 0)
@@ -225,7 +225,7 @@ module _ (tau : Float) (c : FitConfig) (ks ws ts : List Float) (room slots : ℕ
       (λ h. inr (when.out-of-domain refl (late.slice-fails c tried ks ws scaled high o h), c10))))
 
   told : Told 12 number
-  told = subst (Told 12) (sym (answer-number tau c ks ws ts room slots)) (joined 8 12 (entryNumber tau c ks ws ts room slots) (lateNumber tau c ks ws scaled) entry-told late-told)
+  told = subst (Told 12) (sym (answer-number tau c ks ws weights room slots)) (joined 8 12 (entryNumber tau c ks ws weights room slots) (lateNumber tau c ks ws scaled) entry-told late-told)
 
   -- ---- the theorems
 
@@ -266,7 +266,7 @@ module _ (tau : Float) (c : FitConfig) (ks ws ts : List Float) (room slots : ℕ
 
   -- ---- number by number, in their order
 
-  pub when-12 : (number ≡ 12) ↔ UnequalOrShort ks ws ts room slots
+  pub when-12 : (number ≡ 12) ↔ UnequalOrShort ks ws weights room slots
   when-12 =
       let w = exactly 12 (λ z. omega arith) (λ p. when.at-entry (entry.lengths refl p)) (own 12) in
       (λ e. w .0 e .0, λ p. w .1 (p, none-yet))
@@ -274,7 +274,7 @@ module _ (tau : Float) (c : FitConfig) (ks ws ts : List Float) (room slots : ℕ
   pub when-11 : (number ≡ 11) ↔ (OverSize (length ks) c × NoneBefore 11)
   when-11 = exactly 11 (λ z. omega arith) (λ p. when.at-entry (entry.sizes refl p)) (own 11)
 
-  pub when-10 : (number ≡ 10) ↔ (Some (length ks) (λ i. BadObservation (at ks i) (at ws i) (at ts i)) × NoneBefore 10)
+  pub when-10 : (number ≡ 10) ↔ (Some (length ks) (λ i. BadObservation (at ks i) (at ws i) (at weights i)) × NoneBefore 10)
   when-10 = exactly 10 (λ z. omega arith) (λ p. when.at-entry (entry.observation refl p)) (own 10)
 
   pub when-1 : (number ≡ 1) ↔ (BadSettings c × NoneBefore 1)
@@ -289,8 +289,8 @@ module _ (tau : Float) (c : FitConfig) (ks ws ts : List Float) (room slots : ℕ
   pub when-4 : (number ≡ 4) ↔ ((positive (spanOf ks) ≡ false) × NoneBefore 4)
   when-4 = exactly 4 (λ z. omega arith) (λ p. when.at-entry (entry.no-span refl p)) (own 4)
 
-  pub when-5 : (number ≡ 5) ↔ (Some (length ts) (λ i. positive (at scaled i) ≡ false) × NoneBefore 5)
-  when-5 = exactly 5 (λ z. omega arith) (λ p. when.at-entry (entry.weights refl p)) (own 5)
+  pub when-5 : (number ≡ 5) ↔ (Some (length weights) (λ i. positive (at scaled i) ≡ false) × NoneBefore 5)
+  when-5 = exactly 5 (λ z. omega arith) (λ p. when.at-entry (entry.bad-weight refl p)) (own 5)
 
   pub when-6 : (number ≡ 6) ↔ (FacelessPass c ks ws scaled × NoneBefore 6)
   when-6 = exactly 6 (λ z. omega arith) (when.no-face refl) (own 6)
@@ -298,7 +298,7 @@ module _ (tau : Float) (c : FitConfig) (ks ws ts : List Float) (room slots : ℕ
   pub when-7 : (number ≡ 7) ↔ (OnEdge c ks ws scaled × NoneBefore 7)
   when-7 = exactly 7 (λ z. omega arith) (when.on-edge refl) (own 7)
 
-  pub when-8 : (number ≡ 8) ↔ (OutOfDomain c tried ks ws scaled (aMaxFor c ws) (searchFor c ks ws ts .found .cell .objective) × NoneBefore 8)
+  pub when-8 : (number ≡ 8) ↔ (OutOfDomain c tried ks ws scaled (aMaxFor c ws) (searchFor c ks ws weights .found .cell .objective) × NoneBefore 8)
   when-8 = exactly 8 (λ z. omega arith) (when.out-of-domain refl) (own 8)
 
   pub when-9 : (number ≡ 9) ↔ (RmseAboveMax c tried ks ws scaled × NoneBefore 9)

@@ -23,34 +23,34 @@ use Rattle.entry.proofs.Known.{passed, entered}
 use Rattle.calibrate.proofs.EachNumber.{early-answer}
 use Rattle.theorems.proofs.SearchedAsDefined.{searched-as-defined}
 
-module _ (tau : Float) (c : FitConfig) (ks ws ts : List Float) (room slots : ℕ) where
+module _ (tau : Float) (c : FitConfig) (ks ws weights : List Float) (room slots : ℕ) where
   -- an entry check that fails: no counts
-  pub counts-none : (entryNumber tau c ks ws ts room slots ≡ 0 → ⊥) → fitOf tau c ks ws ts room slots .counts ≡ noCounts
+  pub counts-none : (entryNumber tau c ks ws weights room slots ≡ 0 → ⊥) → fitOf tau c ks ws weights room slots .counts ≡ noCounts
   unfolding refusedWith
-  counts-none h = ap (λ (a : FitAnswer). a .counts) (early-answer tau c ks ws ts room slots h)
+  counts-none h = ap (λ (a : FitAnswer). a .counts) (early-answer tau c ks ws weights room slots h)
 
   -- what holds of no counts and of the search's holds of every answer's
-  counts-ind : (P : Counts → Type 0) → P noCounts → (entryNumber tau c ks ws ts room slots ≡ 0 → P (searchFor c ks ws ts .counts)) → P (fitOf tau c ks ws ts room slots .counts)
-  counts-ind P none late = go (eqb (entryNumber tau c ks ws ts room slots) 0) refl
+  counts-ind : (P : Counts → Type 0) → P noCounts → (entryNumber tau c ks ws weights room slots ≡ 0 → P (searchFor c ks ws weights .counts)) → P (fitOf tau c ks ws weights room slots .counts)
+  counts-ind P none late = go (eqb (entryNumber tau c ks ws weights room slots) 0) refl
     where
-      go : (t : Bool) → eqb (entryNumber tau c ks ws ts room slots) 0 ≡ t → P (fitOf tau c ks ws ts room slots .counts)
-      go true e = let h = eqb-true _ _ e in subst P (sym (searched-as-defined tau c ks ws ts room slots h .counts)) (late h)
+      go : (t : Bool) → eqb (entryNumber tau c ks ws weights room slots) 0 ≡ t → P (fitOf tau c ks ws weights room slots .counts)
+      go true e = let h = eqb-true _ _ e in subst P (sym (searched-as-defined tau c ks ws weights room slots h .counts)) (late h)
       go false e = subst P (sym (counts-none (eqb-false _ _ e))) none
 
-  pub fit-counts : SizedCounts (fitOf tau c ks ws ts room slots .counts)
+  pub fit-counts : SizedCounts (fitOf tau c ks ws weights room slots .counts)
   unfolding planOf fitSearch
   fit-counts =
       counts-ind SizedCounts (record { passes = omega arith; cells = omega arith; faces = omega arith })
       (λ h.
-      let z = passed tau c ks ws ts room slots (entered tau c ks ws ts room slots h .0) .sized in
-      let r = roomy (fitCell ks ws (scaledFor c ts) (limitsFor c ws)) (fit-most ks ws (scaledFor c ts) (limitsFor c ws)) (planFor c ks) (z .grid) (z .refinements) (z .recentres) (limitOf (planFor c ks)) (omega arith) in
+      let z = passed tau c ks ws weights room slots (entered tau c ks ws weights room slots h .0) .sized in
+      let r = roomy (fitCell ks ws (scaledFor c weights) (limitsFor c ws)) (fit-most ks ws (scaledFor c weights) (limitsFor c ws)) (planFor c ks) (z .grid) (z .refinements) (z .recentres) (limitOf (planFor c ks)) (omega arith) in
       record { passes = r .passes; cells = r .cells; faces = r .faces })
 
-pub default-counts : (tau : Float) (ks ws ts : List Float) (room slots : ℕ) → DefaultCounts (fitOf tau defaultsOf ks ws ts room slots .counts)
+pub default-counts : (tau : Float) (ks ws weights : List Float) (room slots : ℕ) → DefaultCounts (fitOf tau defaultsOf ks ws weights room slots .counts)
 unfolding planOf fitSearch
-default-counts tau ks ws ts room slots =
-    counts-ind tau defaultsOf ks ws ts room slots DefaultCounts (record { passes = omega arith; cells = omega arith; faces = omega arith })
+default-counts tau ks ws weights room slots =
+    counts-ind tau defaultsOf ks ws weights room slots DefaultCounts (record { passes = omega arith; cells = omega arith; faces = omega arith })
     (λ h.
-    let s = searched-as-defined tau defaultsOf ks ws ts room slots h .search in
-    let m = most-faces (fitCell ks ws (scaledFor defaultsOf ts) (limitsFor defaultsOf ws)) (planFor defaultsOf ks) (limitOf (planFor defaultsOf ks)) 64 (fit-most ks ws (scaledFor defaultsOf ts) (limitsFor defaultsOf ws)) in
+    let s = searched-as-defined tau defaultsOf ks ws weights room slots h .search in
+    let m = most-faces (fitCell ks ws (scaledFor defaultsOf weights) (limitsFor defaultsOf ws)) (planFor defaultsOf ks) (limitOf (planFor defaultsOf ks)) 64 (fit-most ks ws (scaledFor defaultsOf weights) (limitsFor defaultsOf ws)) in
     record { passes = s .passes; cells = omega (arith, s .passes, s .cells); faces = omega (arith, s .passes, s .cells, m) })

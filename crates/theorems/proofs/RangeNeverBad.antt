@@ -87,14 +87,14 @@ range-good ks l f =
     (λ g. next-good t (at ks j) (f j m) g) h)) start (inl (refl, refl)))
 
 pub range-never-bad :
-    (tau : Float) (c : FitConfig) (ks ws ts : List Float) (room slots : ℕ) → entryNumber tau c ks ws ts room slots ≡ 0
-    → rangeNumber (tried tau c ks ws ts room slots .«k_range») ≡ 0
+    (tau : Float) (c : FitConfig) (ks ws weights : List Float) (room slots : ℕ) → entryNumber tau c ks ws weights room slots ≡ 0
+    → rangeNumber (tried tau c ks ws weights room slots .«k_range») ≡ 0
 unfolding rangeNumber sliceOf
-range-never-bad tau c ks ws ts room slots e =
-    let k = entered tau c ks ws ts room slots e .0 in
-    let s = passed tau c ks ws ts room slots k .sized in
+range-never-bad tau c ks ws weights room slots e =
+    let k = entered tau c ks ws weights room slots e .0 in
+    let s = passed tau c ks ws weights room slots k .sized in
     let g =
     range-good ks (omega (arith, s .least))
     (λ i l.
-    both (finite (at ks i)) (finite (at ws i)) (both (finite (at ks i) && finite (at ws i)) (le +0 (at ws i)) (both (finite (at ks i) && finite (at ws i) && le +0 (at ws i)) (positive (at ts i)) (observations-pass ks ws ts (all-pass tau c ks ws ts room slots e k) i l) .0) .0) .0) in
+    both (finite (at ks i)) (finite (at ws i)) (both (finite (at ks i) && finite (at ws i)) (le +0 (at ws i)) (both (finite (at ks i) && finite (at ws i) && le +0 (at ws i)) (positive (at weights i)) (observations-pass ks ws weights (all-pass tau c ks ws weights room slots e k) i l) .0) .0) .0) in
     rw (g .lo, g .hi, is-true (le (rangeOf ks .lo) (rangeOf ks .hi)) (g .rising))

@@ -24,27 +24,27 @@ use Rattle.calibrate.specs.Fit.{aMaxFor, scaledFor, searchFor, sliceFrom, bestE
 use Rattle.calibrate.specs.When.{refusalAnswer}
 use Rattle.judge.specs.When.{rmseAt}
 
-module _ (tau : Float) (c : FitConfig) (ks ws ts : List Float) (room slots : ℕ) where
+module _ (tau : Float) (c : FitConfig) (ks ws weights : List Float) (room slots : ℕ) where
   abbrev pub answer : FitAnswer
-  answer = fitOf tau c ks ws ts room slots
+  answer = fitOf tau c ks ws weights room slots
 
   abbrev pub scaled : List Float
-  scaled = scaledFor c ts
+  scaled = scaledFor c weights
 
   -- rmse_vol of the slice that the fit tries, as worked out
   abbrev pub rmse : Float
-  rmse = rmseAt (sliceFrom tau c (rangeOf ks) (aMaxFor c ws) (searchFor c ks ws ts .found)) ks ws scaled
+  rmse = rmseAt (sliceFrom tau c (rangeOf ks) (aMaxFor c ws) (searchFor c ks ws weights .found)) ks ws scaled
 
   abbrev pub counts : Counts
-  counts = searchFor c ks ws ts .counts
+  counts = searchFor c ks ws weights .counts
 
   abbrev refusal : ℕ → FitAnswer
-  refusal = refusalAnswer tau c ks ws ts room slots
+  refusal = refusalAnswer tau c ks ws weights room slots
 
   -- ---- the entry
 
   abbrev entry : ℕ
-  entry = entryNumber tau c ks ws ts room slots
+  entry = entryNumber tau c ks ws weights room slots
 
   abbrev Early : ℕ → Type 0
   Early n = ¬ (n ≡ 0) → refusedEarly n (length ks) (c .«min_observations») ≡ refusal n
@@ -52,11 +52,11 @@ module _ (tau : Float) (c : FitConfig) (ks ws ts : List Float) (room slots : ℕ
   early : Early entry
   unfolding entryNumber checksNumber refusalAnswer
   early =
-      cond-ind Early (eqb (checksNumber tau c ks ws ts room slots) 0)
+      cond-ind Early (eqb (checksNumber tau c ks ws weights room slots) 0)
       (cond-ind Early (allGood scaled) (λ h. absurd (h refl)) (λ h. refl))
-      (cond-ind Early (lengthsHold ks ws ts room slots)
+      (cond-ind Early (lengthsHold ks ws weights room slots)
       (cond-ind Early (sizesHold (length ks) c)
-      (cond-ind Early (columnsPass ks ws ts)
+      (cond-ind Early (columnsPass ks ws weights)
       (cond-ind Early (settingsHold c)
       (cond-ind Early (positive tau)
       (cond-ind Early (leb (c .«min_observations») (length ks))
@@ -79,11 +79,11 @@ module _ (tau : Float) (c : FitConfig) (ks ws ts : List Float) (room slots : ℕ
   late : Late decided
   unfolding decidedOf searchEnd bestEnd endOf refusalAnswer refusedWith acceptedOf rmseHolds
   late =
-      let t = sliceFrom tau c (rangeOf ks) (aMaxFor c ws) (searchFor c ks ws ts .found) in
-      cond-ind Late (searchFor c ks ws ts .refused) (record { refused = λ h. refl; accepted = λ e. absurd (omega arith) })
-      (cond-ind Late (searchFor c ks ws ts .found .«on_edge») (record { refused = λ h. refl; accepted = λ e. absurd (omega arith) })
+      let t = sliceFrom tau c (rangeOf ks) (aMaxFor c ws) (searchFor c ks ws weights .found) in
+      cond-ind Late (searchFor c ks ws weights .refused) (record { refused = λ h. refl; accepted = λ e. absurd (omega arith) })
+      (cond-ind Late (searchFor c ks ws weights .found .«on_edge») (record { refused = λ h. refl; accepted = λ e. absurd (omega arith) })
       (cond-ind Late (eqb (numberOf t) 0)
-      (cond-ind Late (paramsHold c (aMaxFor c ws) (searchFor c ks ws ts .found .cell .objective) (sumsOf t ks ws scaled))
+      (cond-ind Late (paramsHold c (aMaxFor c ws) (searchFor c ks ws weights .found .cell .objective) (sumsOf t ks ws scaled))
       (cond-test Late (rmseHolds c rmse)
       (λ e. record { refused = λ h. absurd (h refl); accepted = λ z. both (finite rmse) (le rmse (c .«max_rmse_vol»)) e })
       (λ e. record { refused = λ h. refl; accepted = λ e. absurd (omega arith) }))
@@ -95,13 +95,13 @@ module _ (tau : Float) (c : FitConfig) (ks ws ts : List Float) (room slots : ℕ
   -- an answer is a refusal of the entry, a refusal of the end, or an accepted one with how many weights were capped
   kinds :
       (P : FitAnswer → Type 0) → (¬ (entry ≡ 0) → P (refusedEarly entry (length ks) (c .«min_observations»))) → (¬ (decided .number ≡ 0) → P decided)
-      → (decided .number ≡ 0 → P (cappedAs decided (length (cappedOf (c .«max_weight_ratio») ts)))) → P answer
+      → (decided .number ≡ 0 → P (cappedAs decided (length (cappedOf (c .«max_weight_ratio») weights)))) → P answer
   unfolding fitOf
   kinds P x y z =
       cond-test P (eqb entry 0) (λ e. cond-test P (eqb (decided .number) 0) (λ e. z (eqb-true _ _ e)) (λ e. y (eqb-false _ _ e))) (λ e. x (eqb-false _ _ e))
 
   -- every refusal: its number decides what is in it
-  pub refusal-carries : ¬ (answer .number ≡ 0) → answer ≡ refusalAnswer tau c ks ws ts room slots (answer .number)
+  pub refusal-carries : ¬ (answer .number ≡ 0) → answer ≡ refusalAnswer tau c ks ws weights room slots (answer .number)
   unfolding refusedWith cappedAs
   refusal-carries = kinds (λ (a : FitAnswer). ¬ (a .number ≡ 0) → a ≡ refusal (a .number)) (λ z h. early z) (λ z h. late .refused z) (λ z h. absurd (h z))
 

@@ -9,7 +9,7 @@ use Rattle.records.specs.declared.FitAnswer.{FitAnswer}
 use Rattle.calibrate.specs.Fit.{Fitted}
 
 pub refusal-keeps-buffers :
-    (tau : Float) (c : FitConfig) (ks ws ts residuals : List Float) (capped : List ℕ) (r : FitAnswer) (residuals′ : List Float) (capped′ : List ℕ)
-    → Fitted tau c ks ws ts residuals capped r residuals′ capped′ → ¬ (r .number ≡ 0) → (residuals′ ≡ residuals) × (capped′ ≡ capped)
-refusal-keeps-buffers tau c ks ws ts residuals capped r residuals′ capped′ f h =
+    (tau : Float) (c : FitConfig) (ks ws weights residuals : List Float) (capped : List ℕ) (r : FitAnswer) (residuals′ : List Float) (capped′ : List ℕ)
+    → Fitted tau c ks ws weights residuals capped r residuals′ capped′ → ¬ (r .number ≡ 0) → (residuals′ ≡ residuals) × (capped′ ≡ capped)
+refusal-keeps-buffers tau c ks ws weights residuals capped r residuals′ capped′ f h =
     (f .left ∙ sym (kept (r .number) _ residuals h), f .listed ∙ sym (kept (r .number) _ capped h))

@@ -32,14 +32,14 @@ use Rattle.calibrate.specs.Searched.{FromFound, Searched}
 use Rattle.entry.proofs.Known.{passed, entered}
 
 -- the scaled weights are as many as the observations, in the range of a cell
-in-range : (c : FitConfig) (ks ws ts : List Float) → Sized c ks ws ts → inRange ks ws (scaledOf (c .«max_weight_ratio») ts) ≡ true
-in-range c ks ws ts s =
+in-range : (c : FitConfig) (ks ws weights : List Float) → Sized c ks ws weights → inRange ks ws (scaledOf (c .«max_weight_ratio») weights) ≡ true
+in-range c ks ws weights s =
     let r = c .«max_weight_ratio» in
-    rw (le-leb (length ks) 256 (s .most), eq-eqb (length ws) (length ks) (s .ws-long), eq-eqb (length (scaledOf r ts)) (length ks) (scaled-length r ts ∙ s .ts-long))
+    rw (le-leb (length ks) 256 (s .most), eq-eqb (length ws) (length ks) (s .ws-long), eq-eqb (length (scaledOf r weights)) (length ks) (scaled-length r weights ∙ s .weights-long))
 
-module _ (tau : Float) (c : FitConfig) (ks ws ts : List Float) where
+module _ (tau : Float) (c : FitConfig) (ks ws weights : List Float) where
   abbrev s : Search
-  s = searchFor c ks ws ts
+  s = searchFor c ks ws weights
 
   abbrev active : List Bool
   active = activeFrom c (aMaxFor c ws) (s .found)
@@ -48,13 +48,13 @@ module _ (tau : Float) (c : FitConfig) (ks ws ts : List Float) where
   slice = sliceFrom tau c (rangeOf ks) (aMaxFor c ws) (s .found)
 
   abbrev sums : Sums
-  sums = sumsOf slice ks ws (scaledFor c ts)
+  sums = sumsOf slice ks ws (scaledFor c weights)
 
   abbrev rmse : Float
   rmse = rmseOf sums (length ks)
 
   abbrev done : FitAnswer
-  done = cappedAs (acceptedOf c (s .counts) (s .found .cell .objective) active slice (sums .params) rmse) (length (cappedOf (c .«max_weight_ratio») ts))
+  done = cappedAs (acceptedOf c (s .counts) (s .found .cell .objective) active slice (sums .params) rmse) (length (cappedOf (c .«max_weight_ratio») weights))
 
   -- the answers of a fit that passes the entry checks: what holds of each of them holds of its answer
   module _
@@ -66,9 +66,9 @@ module _ (tau : Float) (c : FitConfig) (ks ws ts : List Float) where
       (none : s .refused ≡ false → s .found .«on_edge» ≡ false → P done) where
     -- of a, with its capped positions where it is accepted
     abbrev Of : FitAnswer → Type 0
-    Of a = P (cond (eqb (a .number) 0) (cappedAs a (length (cappedOf (c .«max_weight_ratio») ts))) a)
+    Of a = P (cond (eqb (a .number) 0) (cappedAs a (length (cappedOf (c .«max_weight_ratio») weights))) a)
 
-    of-decided : Of (decidedOf tau c ks ws (scaledFor c ts))
+    of-decided : Of (decidedOf tau c ks ws (scaledFor c weights))
     unfolding decidedOf searchEnd bestEnd endOf refusedWith acceptedOf
     of-decided =
         cond-test Of (s .refused) six
@@ -81,22 +81,22 @@ module _ (tau : Float) (c : FitConfig) (ks ws ts : List Float) where
         (eight r))
         (eight r)))
 
-    of-fit : (room slots : ℕ) → entryNumber tau c ks ws ts room slots ≡ 0 → P (fitOf tau c ks ws ts room slots)
+    of-fit : (room slots : ℕ) → entryNumber tau c ks ws weights room slots ≡ 0 → P (fitOf tau c ks ws weights room slots)
     unfolding fitOf
     of-fit room slots h = rw h of-decided
 
-module _ (tau : Float) (c : FitConfig) (ks ws ts : List Float) (room slots : ℕ) where
+module _ (tau : Float) (c : FitConfig) (ks ws weights : List Float) (room slots : ℕ) where
   -- the number, the counts and what an accepted answer is made from, of every answer
   record Ends (a : FitAnswer) : Type 0 where
-    counts : a .counts ≡ searchFor c ks ws ts .counts
-    refuses : searchFor c ks ws ts .refused ≡ true → a .number ≡ 6
-    refused : a .number ≡ 6 → searchFor c ks ws ts .refused ≡ true
-    accepted : a .number ≡ 0 → FromFound tau c ks ws (searchFor c ks ws ts) a
+    counts : a .counts ≡ searchFor c ks ws weights .counts
+    refuses : searchFor c ks ws weights .refused ≡ true → a .number ≡ 6
+    refused : a .number ≡ 6 → searchFor c ks ws weights .refused ≡ true
+    accepted : a .number ≡ 0 → FromFound tau c ks ws (searchFor c ks ws weights) a
 
-  ends : entryNumber tau c ks ws ts room slots ≡ 0 → Ends (fitOf tau c ks ws ts room slots)
+  ends : entryNumber tau c ks ws weights room slots ≡ 0 → Ends (fitOf tau c ks ws weights room slots)
   unfolding refusedWith acceptedOf cappedAs
   ends =
-      of-fit tau c ks ws ts Ends
+      of-fit tau c ks ws weights Ends
       (λ r. record { counts = refl; refuses = λ e. refl; refused = λ e. r; accepted = λ e. absurd (omega (arith, e)) })
       (λ r. record { counts = refl; refuses = λ e. false-true (sym r ∙ e); refused = λ e. absurd (omega (arith, e)); accepted = λ e. absurd (omega (arith, e)) })
       (λ r. record { counts = refl; refuses = λ e. false-true (sym r ∙ e); refused = λ e. absurd (omega (arith, e)); accepted = λ e. absurd (omega (arith, e)) })
@@ -109,14 +109,14 @@ module _ (tau : Float) (c : FitConfig) (ks ws ts : List Float) (room slots : ℕ
         accepted = λ e. record { found = r; inside = i; objective = refl; active = refl; slice = refl };
       }) room slots
 
-  search-promised : entryNumber tau c ks ws ts room slots ≡ 0
-      → Promised (fitCell ks ws (scaledFor c ts) (limitsFor c ws)) (fitFace ks ws (scaledFor c ts) (limitsFor c ws)) 64 (planFor c ks) (searchFor c ks ws ts)
+  search-promised : entryNumber tau c ks ws weights room slots ≡ 0
+      → Promised (fitCell ks ws (scaledFor c weights) (limitsFor c ws)) (fitFace ks ws (scaledFor c weights) (limitsFor c ws)) 64 (planFor c ks) (searchFor c ks ws weights)
   unfolding fitSearch
   search-promised h =
-      let p = passed tau c ks ws ts room slots (entered tau c ks ws ts room slots h .0) in
-      no-better-face _ _ 64 (fit-chosen ks ws (scaledFor c ts) (limitsFor c ws) (in-range c ks ws ts (p .sized))) (planFor c ks)
+      let p = passed tau c ks ws weights room slots (entered tau c ks ws weights room slots h .0) in
+      no-better-face _ _ 64 (fit-chosen ks ws (scaledFor c weights) (limitsFor c ws) (in-range c ks ws weights (p .sized))) (planFor c ks)
 
-  pub searched-as-defined : entryNumber tau c ks ws ts room slots ≡ 0 → Searched tau c ks ws ts (fitOf tau c ks ws ts room slots)
+  pub searched-as-defined : entryNumber tau c ks ws weights room slots ≡ 0 → Searched tau c ks ws weights (fitOf tau c ks ws weights room slots)
   searched-as-defined h =
       let e = ends h in
       record { counts = e .counts; search = search-promised h; refuses = e .refuses; refused = e .refused; accepted = e .accepted }

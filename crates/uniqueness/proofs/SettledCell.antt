@@ -10,9 +10,9 @@ use mathlib.Core.List.{List}
 use mathlib.Core.Path.{_≡_}
 
 -- cell::inner_on
-pub inner-on : (ks : List Float) (ws : List Float) (ts : List Float) (l : Limits) (m : Float) (sigma : Float) (ys : List Float) (hs : List Float) {r₁ r₂ : Cell} {ys-exit₁ ys-exit₂ : List Float} {hs-exit₁ hs-exit₂ : List Float} → ((r₁ ≡ innerOn ks ws ts l m sigma ys hs) × (ys-exit₁ ≡ unless (inRange ks ws ts) ys (ysOn ks m sigma ys)) × (hs-exit₁ ≡ unless (inRange ks ws ts) hs (hsOn ks m sigma ys hs))) → ((r₂ ≡ innerOn ks ws ts l m sigma ys hs) × (ys-exit₂ ≡ unless (inRange ks ws ts) ys (ysOn ks m sigma ys)) × (hs-exit₂ ≡ unless (inRange ks ws ts) hs (hsOn ks m sigma ys hs))) → (r₁ ≡ r₂) × (ys-exit₁ ≡ ys-exit₂) × (hs-exit₁ ≡ hs-exit₂)
-inner-on ks ws ts l m sigma ys hs {r₁} {r₂} {ys-exit₁} {ys-exit₂} {hs-exit₁} {hs-exit₂} h₁ h₂ = (cc, cc, cc)
+pub inner-on : (ks : List Float) (ws : List Float) (weights : List Float) (l : Limits) (m : Float) (sigma : Float) (ys : List Float) (hs : List Float) {r₁ r₂ : Cell} {ys-exit₁ ys-exit₂ : List Float} {hs-exit₁ hs-exit₂ : List Float} → ((r₁ ≡ innerOn ks ws weights l m sigma ys hs) × (ys-exit₁ ≡ unless (inRange ks ws weights) ys (ysOn ks m sigma ys)) × (hs-exit₁ ≡ unless (inRange ks ws weights) hs (hsOn ks m sigma ys hs))) → ((r₂ ≡ innerOn ks ws weights l m sigma ys hs) × (ys-exit₂ ≡ unless (inRange ks ws weights) ys (ysOn ks m sigma ys)) × (hs-exit₂ ≡ unless (inRange ks ws weights) hs (hsOn ks m sigma ys hs))) → (r₁ ≡ r₂) × (ys-exit₁ ≡ ys-exit₂) × (hs-exit₁ ≡ hs-exit₂)
+inner-on ks ws weights l m sigma ys hs {r₁} {r₂} {ys-exit₁} {ys-exit₂} {hs-exit₁} {hs-exit₂} h₁ h₂ = (cc, cc, cc)
 
 -- cell::inner
-pub inner : (ks : List Float) (ws : List Float) (ts : List Float) (l : Limits) (m : Float) (sigma : Float) {r₁ r₂ : Cell} → (r₁ ≡ innerOf ks ws ts l m sigma) → (r₂ ≡ innerOf ks ws ts l m sigma) → r₁ ≡ r₂
-inner ks ws ts l m sigma h₁ h₂ = settled h₁ h₂
+pub inner : (ks : List Float) (ws : List Float) (weights : List Float) (l : Limits) (m : Float) (sigma : Float) {r₁ r₂ : Cell} → (r₁ ≡ innerOf ks ws weights l m sigma) → (r₂ ≡ innerOf ks ws weights l m sigma) → r₁ ≡ r₂
+inner ks ws weights l m sigma h₁ h₂ = settled h₁ h₂

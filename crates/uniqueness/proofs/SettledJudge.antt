@@ -20,8 +20,8 @@ pub residual-at : (s : SviSlice) (k : Float) (w : Float) {r₁ r₂ : Residual} 
 residual-at s k w h₁ h₂ = settled h₁ h₂
 
 -- judge::sums_of
-pub sums-of : (s : SviSlice) (k : List Float) (w : List Float) (ts : List Float) {r₁ r₂ : Sums} → (r₁ ≡ matchedSums s k w ts) → (r₂ ≡ matchedSums s k w ts) → r₁ ≡ r₂
-sums-of s k w ts h₁ h₂ = settled h₁ h₂
+pub sums-of : (s : SviSlice) (k : List Float) (w : List Float) (weights : List Float) {r₁ r₂ : Sums} → (r₁ ≡ matchedSums s k w weights) → (r₂ ≡ matchedSums s k w weights) → r₁ ≡ r₂
+sums-of s k w weights h₁ h₂ = settled h₁ h₂
 
 -- judge::params_hold
 pub params-hold : (config : FitConfig) («a_max» : Float) (objective : Float) (t : Sums) {r₁ r₂ : Bool} → (r₁ ≡ paramsHold config «a_max» objective t) → (r₂ ≡ paramsHold config «a_max» objective t) → r₁ ≡ r₂

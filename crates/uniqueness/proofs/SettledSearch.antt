@@ -9,5 +9,5 @@ use mathlib.Core.List.{List}
 use mathlib.Core.Path.{_≡_}
 
 -- search::run
-pub run : (ks : List Float) (ws : List Float) (ts : List Float) (l : Limits) (p : Plan) {r₁ r₂ : Search} → (r₁ ≡ plannedSearch ks ws ts l p) → (r₂ ≡ plannedSearch ks ws ts l p) → r₁ ≡ r₂
-run ks ws ts l p h₁ h₂ = settled h₁ h₂
+pub run : (ks : List Float) (ws : List Float) (weights : List Float) (l : Limits) (p : Plan) {r₁ r₂ : Search} → (r₁ ≡ plannedSearch ks ws weights l p) → (r₂ ≡ plannedSearch ks ws weights l p) → r₁ ≡ r₂
+run ks ws weights l p h₁ h₂ = settled h₁ h₂

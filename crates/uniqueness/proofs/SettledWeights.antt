@@ -7,5 +7,5 @@ use mathlib.Core.List.{List}
 use mathlib.Core.Path.{_≡_}
 
 -- weights::weights_of
-pub weights-of : (ws : List Float) (ratio : Float) {r₁ r₂ : Weights} → (r₁ ≡ weightsOf ratio ws) → (r₂ ≡ weightsOf ratio ws) → r₁ ≡ r₂
-weights-of ws ratio h₁ h₂ = settled h₁ h₂
+pub weights-of : (weights : List Float) (ratio : Float) {r₁ r₂ : Weights} → (r₁ ≡ weightsOf ratio weights) → (r₂ ≡ weightsOf ratio weights) → r₁ ≡ r₂
+weights-of weights ratio h₁ h₂ = settled h₁ h₂

@@ -61,57 +61,57 @@ unfolding insertOf
 insert-length x [] = refl
 insert-length x (y ∷ ys) = ap suc (insert-length (greater x y) ys)
 
-sort-length : (ts : List Float) → length (sortOf ts) ≡ length ts
+sort-length : (weights : List Float) → length (sortOf weights) ≡ length weights
 unfolding sortOf
 sort-length [] = refl
-sort-length (w ∷ ts) = insert-length w (sortOf ts) ∙ ap suc (sort-length ts)
+sort-length (w ∷ weights) = insert-length w (sortOf weights) ∙ ap suc (sort-length weights)
 
 abbrev pub Sorting : List Float → List Float → ℕ → List Float → Type 0
-Sorting ts room m a = (m ≤ length ts) × (a ≡ sortOf (drop (length ts - m) ts) ++ drop m room)
+Sorting weights room m a = (m ≤ length weights) × (a ≡ sortOf (drop (length weights - m) weights) ++ drop m room)
 
-pub sort-start : (ts room : List Float) → Sorting ts room 0 room
+pub sort-start : (weights room : List Float) → Sorting weights room 0 room
 unfolding sortOf
-sort-start ts room = (omega arith, rw (sub-zero (length ts), drop-length ts))
+sort-start weights room = (omega arith, rw (sub-zero (length weights), drop-length weights))
 
 pub sort-next :
-    (ts room a next : List Float) (m : ℕ) → m < length ts → Sorting ts room m a → next ≡ insertOf (at ts (length ts - 1 - m)) (take m a) ++ drop (m + 1) a
-    → Sorting ts room (m + 1) next
+    (weights room a next : List Float) (m : ℕ) → m < length weights → Sorting weights room m a → next ≡ insertOf (at weights (length weights - 1 - m)) (take m a) ++ drop (m + 1) a
+    → Sorting weights room (m + 1) next
 unfolding sortOf
-sort-next ts room a next m h inv e =
-    let i = length ts - 1 - m in
-    let x : length ts - (m + 1) ≡ i = omega arith in
-    let y : length ts - m ≡ suc i = omega arith in
-    let s = sortOf (drop (length ts - m) ts) in
-    let long : length s ≡ m = sort-length (drop (length ts - m) ts) ∙ length-drop (length ts - m) ts ∙ omega arith in
+sort-next weights room a next m h inv e =
+    let i = length weights - 1 - m in
+    let x : length weights - (m + 1) ≡ i = omega arith in
+    let y : length weights - m ≡ suc i = omega arith in
+    let s = sortOf (drop (length weights - m) weights) in
+    let long : length s ≡ m = sort-length (drop (length weights - m) weights) ∙ length-drop (length weights - m) weights ∙ omega arith in
     let front : take m a ≡ s = ap (take m) (inv .1) ∙ take-at s (drop m room) m long in
     let back : drop (m + 1) a ≡ drop (m + 1) room = drop-more m a room (ap (drop m) (inv .1) ∙ drop-at s (drop m room) m long) in
-    let one : insertOf (at ts i) s ≡ sortOf (drop (length ts - (m + 1)) ts) = rw (x, y, drop-cons ts i nan (omega arith)) in
-    (omega arith, e ∙ ap (λ (l : List Float). insertOf (at ts i) l ++ drop (m + 1) a) front ∙ ap (λ (l : List Float). insertOf (at ts i) s ++ l) back ∙ ap (λ (l : List Float). l ++ drop (m + 1) room) one)
+    let one : insertOf (at weights i) s ≡ sortOf (drop (length weights - (m + 1)) weights) = rw (x, y, drop-cons weights i nan (omega arith)) in
+    (omega arith, e ∙ ap (λ (l : List Float). insertOf (at weights i) l ++ drop (m + 1) a) front ∙ ap (λ (l : List Float). insertOf (at weights i) s ++ l) back ∙ ap (λ (l : List Float). l ++ drop (m + 1) room) one)
 
-pub sort-end : (ts room a : List Float) (m : ℕ) → length ts ≤ m → Sorting ts room m a → a ≡ atFront (sortOf ts) room
-sort-end ts room a m h inv =
-    let e : m ≡ length ts = omega (arith, inv .0, h) in
-    let z : length ts - m ≡ 0 = omega arith in
-    inv .1 ∙ ap (λ (k : ℕ). sortOf (drop k ts) ++ drop m room) z ∙ ap (λ (k : ℕ). sortOf ts ++ drop k room) (e ∙ sym (sort-length ts))
+pub sort-end : (weights room a : List Float) (m : ℕ) → length weights ≤ m → Sorting weights room m a → a ≡ atFront (sortOf weights) room
+sort-end weights room a m h inv =
+    let e : m ≡ length weights = omega (arith, inv .0, h) in
+    let z : length weights - m ≡ 0 = omega arith in
+    inv .1 ∙ ap (λ (k : ℕ). sortOf (drop k weights) ++ drop m room) z ∙ ap (λ (k : ℕ). sortOf weights ++ drop k room) (e ∙ sym (sort-length weights))
 
 -- ---- the weights scaled by f, one after the other
 
 abbrev pub Scaling : (Float → Float) → List Float → List Float → ℕ → List Float → Type 0
-Scaling f ts room i a = (i ≤ length ts) × (a ≡ map f (take i ts) ++ drop i room)
+Scaling f weights room i a = (i ≤ length weights) × (a ≡ map f (take i weights) ++ drop i room)
 
 pub scale-next :
-    (f : Float → Float) (ts room a : List Float) (i : ℕ) → i < length ts → i < length room → Scaling f ts room i a → Scaling f ts room (i + 1) (set a i (f (at ts i)))
-scale-next f ts room a i h k inv =
-    let p = map f (take i ts) in
-    let long : length p ≡ i = length-map (take i ts) f ∙ length-take-le i ts (omega arith) in
-    let one : map f (take (i + 1) ts) ≡ p ++ (f (at ts i) ∷ []) = rw (add-one i, take-suc ts i nan h, map-append) in
-    (omega arith, ap (λ (l : List Float). set l i (f (at ts i))) (inv .1) ∙ put-next nan p room i (i + 1) (f (at ts i)) long k (omega arith) ∙ ap (λ (l : List Float). l ++ drop (i + 1) room) (sym one))
+    (f : Float → Float) (weights room a : List Float) (i : ℕ) → i < length weights → i < length room → Scaling f weights room i a → Scaling f weights room (i + 1) (set a i (f (at weights i)))
+scale-next f weights room a i h k inv =
+    let p = map f (take i weights) in
+    let long : length p ≡ i = length-map (take i weights) f ∙ length-take-le i weights (omega arith) in
+    let one : map f (take (i + 1) weights) ≡ p ++ (f (at weights i) ∷ []) = rw (add-one i, take-suc weights i nan h, map-append) in
+    (omega arith, ap (λ (l : List Float). set l i (f (at weights i))) (inv .1) ∙ put-next nan p room i (i + 1) (f (at weights i)) long k (omega arith) ∙ ap (λ (l : List Float). l ++ drop (i + 1) room) (sym one))
 
-pub scale-end : (f : Float → Float) (ts room a : List Float) (i : ℕ) → length ts ≤ i → Scaling f ts room i a → a ≡ atFront (map f ts) room
-scale-end f ts room a i h inv =
-    let e : i ≡ length ts = omega (arith, inv .0, h) in
-    inv .1 ∙ ap (λ (k : ℕ). map f (take k ts) ++ drop k room) e ∙ ap (λ (l : List Float). map f l ++ drop (length ts) room) (take-length ts)
-    ∙ ap (λ (k : ℕ). map f ts ++ drop k room) (sym (length-map ts f))
+pub scale-end : (f : Float → Float) (weights room a : List Float) (i : ℕ) → length weights ≤ i → Scaling f weights room i a → a ≡ atFront (map f weights) room
+scale-end f weights room a i h inv =
+    let e : i ≡ length weights = omega (arith, inv .0, h) in
+    inv .1 ∙ ap (λ (k : ℕ). map f (take k weights) ++ drop k room) e ∙ ap (λ (l : List Float). map f l ++ drop (length weights) room) (take-length weights)
+    ∙ ap (λ (k : ℕ). map f weights ++ drop k room) (sym (length-map weights f))
 
 -- ---- what stands behind a list does not count
 
@@ -134,35 +134,35 @@ over-front l s room e = ap (λ (r : List Float). l ++ r) (drop-at s (drop (lengt
 
 -- ---- step 3 as the code makes it: the room with the sorted weights, then with the scaled ones
 pub weighed-is :
-    (ratio : Float) (ts sorted scaled : List Float) (mid most : Float) (ok : Bool)
-    → 1 ≤ length ts
-    → sorted ≡ atFront (sortOf ts) zeros
-    → mid ≡ midOf (length ts) sorted
-    → most ≡ topOf (ratio *f mid) ts
-    → scaled ≡ atFront (map (scaleOne (ratio *f mid) most) ts) sorted
-    → ok ≡ goodFirst (length ts) scaled
-    → _≡_ {A = Weights} (record { ok = ok; cap = ratio *f mid; w = scaled }) (weighed ratio ts)
+    (ratio : Float) (weights sorted scaled : List Float) (mid most : Float) (ok : Bool)
+    → 1 ≤ length weights
+    → sorted ≡ atFront (sortOf weights) zeros
+    → mid ≡ midOf (length weights) sorted
+    → most ≡ topOf (ratio *f mid) weights
+    → scaled ≡ atFront (map (scaleOne (ratio *f mid) most) weights) sorted
+    → ok ≡ goodFirst (length weights) scaled
+    → _≡_ {A = Weights} (record { ok = ok; cap = ratio *f mid; w = scaled }) (weighed ratio weights)
 unfolding weighed
-weighed-is ratio ts sorted scaled mid most ok h e1 e2 e3 e4 e5 =
-    let n = length ts in
-    let f : Float → Float = scaleOne (capOf ratio ts) (topOf (capOf ratio ts) ts) in
-    let m : mid ≡ medianOf ts = e2 ∙ ap (midOf n) e1 ∙ mid-front n (sortOf ts) zeros (sort-length ts) h in
-    let t : most ≡ topOf (capOf ratio ts) ts = e3 ∙ ap (λ (x : Float). topOf (ratio *f x) ts) m in
-    let s : scaled ≡ atFront (scaledOf ratio ts) zeros =
-    e4 ∙ ap (λ (x : Float). atFront (map (scaleOne (ratio *f x) most) ts) sorted) m ∙ ap (λ (x : Float). atFront (map (scaleOne (capOf ratio ts) x) ts) sorted) t
-    ∙ ap (atFront (scaledOf ratio ts)) e1 ∙ over-front (scaledOf ratio ts) (sortOf ts) zeros (length-map ts f ∙ sym (sort-length ts)) in
-    let o : ok ≡ allGood (scaledOf ratio ts) = e5 ∙ ap (goodFirst n) s ∙ good-front n (scaledOf ratio ts) zeros (length-map ts f) in
+weighed-is ratio weights sorted scaled mid most ok h e1 e2 e3 e4 e5 =
+    let n = length weights in
+    let f : Float → Float = scaleOne (capOf ratio weights) (topOf (capOf ratio weights) weights) in
+    let m : mid ≡ medianOf weights = e2 ∙ ap (midOf n) e1 ∙ mid-front n (sortOf weights) zeros (sort-length weights) h in
+    let t : most ≡ topOf (capOf ratio weights) weights = e3 ∙ ap (λ (x : Float). topOf (ratio *f x) weights) m in
+    let s : scaled ≡ atFront (scaledOf ratio weights) zeros =
+    e4 ∙ ap (λ (x : Float). atFront (map (scaleOne (ratio *f x) most) weights) sorted) m ∙ ap (λ (x : Float). atFront (map (scaleOne (capOf ratio weights) x) weights) sorted) t
+    ∙ ap (atFront (scaledOf ratio weights)) e1 ∙ over-front (scaledOf ratio weights) (sortOf weights) zeros (length-map weights f ∙ sym (sort-length weights)) in
+    let o : ok ≡ allGood (scaledOf ratio weights) = e5 ∙ ap (goodFirst n) s ∙ good-front n (scaledOf ratio weights) zeros (length-map weights f) in
     λ i. record { ok = o i; cap = ratio *f m i; w = s i }
 
 -- ---- what a caller with 1 to 256 weights holds
 
-pub scaled-length : (ratio : Float) (ts : List Float) → length (scaledOf ratio ts) ≡ length ts
-scaled-length ratio ts = length-map ts (scaleOne (capOf ratio ts) (topOf (capOf ratio ts) ts))
+pub scaled-length : (ratio : Float) (weights : List Float) → length (scaledOf ratio weights) ≡ length weights
+scaled-length ratio weights = length-map weights (scaleOne (capOf ratio weights) (topOf (capOf ratio weights) weights))
 
-pub weights-are : (ratio : Float) (ts : List Float) → 1 ≤ length ts → length ts ≤ 256 → weightsOf ratio ts ≡ weighed ratio ts
+pub weights-are : (ratio : Float) (weights : List Float) → 1 ≤ length weights → length weights ≤ 256 → weightsOf ratio weights ≡ weighed ratio weights
 unfolding weightsOf
-weights-are ratio ts l h = sym (if-true _ (le-leb 1 (length ts) l) (if-true _ (le-leb (length ts) 256 h) refl))
+weights-are ratio weights l h = sym (if-true _ (le-leb 1 (length weights) l) (if-true _ (le-leb (length weights) 256 h) refl))
 
-pub take-weighed : (ratio : Float) (ts : List Float) → take (length ts) (weighed ratio ts .w) ≡ scaledOf ratio ts
+pub take-weighed : (ratio : Float) (weights : List Float) → take (length weights) (weighed ratio weights .w) ≡ scaledOf ratio weights
 unfolding weighed
-take-weighed ratio ts = take-at (scaledOf ratio ts) (drop (length (scaledOf ratio ts)) zeros) (length ts) (scaled-length ratio ts)
+take-weighed ratio weights = take-at (scaledOf ratio weights) (drop (length (scaledOf ratio weights)) zeros) (length weights) (scaled-length ratio weights)

@@ -139,9 +139,9 @@ max-is P t v n f g = go (lt t v) (ne t t) refl f g
     go false true e p q = absurd (same-is t n e)
     go false false e p q = q tt
 
-module _ (cap : Float) (ts : List Float) where
+module _ (cap : Float) (weights : List Float) where
   abbrev v : ℕ → Float
-  v j = minOf (at ts j) cap
+  v j = minOf (at weights j) cap
 
   -- of the first i: 0, or one of them, and that is above 0
   data Top (i : ℕ) (t : Float) : Type 0 where
@@ -165,7 +165,7 @@ module _ (cap : Float) (ts : List Float) where
     top : Top i t
     most : (j : ℕ) → j < i → Number (v j) → T (le (v j) t)
 
-  larger : (i : ℕ) (t : Float) → i < length ts → Largest i t → Largest (i + 1) (maxOf t (v i))
+  larger : (i : ℕ) (t : Float) → i < length weights → Largest i t → Largest (i + 1) (maxOf t (v i))
   larger i t l h =
       let n = top-number i t (h .top) in
       record {
@@ -187,9 +187,9 @@ module _ (cap : Float) (ts : List Float) where
           go true f h = tt
           go false f h = absurd (yes-no (lt y x) (f tt) h)
 
-  largest : Largest (length ts) (topOf cap ts)
+  largest : Largest (length weights) (topOf cap weights)
   unfolding topOf
-  largest = for-ind (λ i t. maxOf t (v i)) Largest (length ts) larger +0 (record { top = none refl; most = λ j l. absurd (not-suc-le-zero l) })
+  largest = for-ind (λ i t. maxOf t (v i)) Largest (length weights) larger +0 (record { top = none refl; most = λ j l. absurd (not-suc-le-zero l) })
 
 -- ---- the scaled weights
 
@@ -226,39 +226,39 @@ pub record Shares (l : List Float) : Type 0 where
   pub within : whole < length l
   pub is-one : at l whole ≡ one
 
-pub shares : (ratio : Float) (ts : List Float) → 0 < length ts → T (allGood (scaledOf ratio ts)) → Shares (scaledOf ratio ts)
-shares ratio ts some-one all = go (largest cap ts .top)
+pub shares : (ratio : Float) (weights : List Float) → 0 < length weights → T (allGood (scaledOf ratio weights)) → Shares (scaledOf ratio weights)
+shares ratio weights some-one all = go (largest cap weights .top)
   where
     cap : Float
-    cap = capOf ratio ts
+    cap = capOf ratio weights
 
     n : ℕ
-    n = length ts
+    n = length weights
 
     top : Float
-    top = topOf cap ts
+    top = topOf cap weights
 
     l : List Float
-    l = scaledOf ratio ts
+    l = scaledOf ratio weights
 
     long : length l ≡ n
-    long = length-map ts (scaleOne cap top)
+    long = length-map weights (scaleOne cap top)
 
-    at-is : (i : ℕ) → i < n → at l i ≡ over (v cap ts i) top
-    at-is i h = map-at (scaleOne cap top) ts i h
+    at-is : (i : ℕ) → i < n → at l i ≡ over (v cap weights i) top
+    at-is i h = map-at (scaleOne cap top) weights i h
 
-    good-is : (i : ℕ) → i < n → T (positive (over (v cap ts i) top))
+    good-is : (i : ℕ) → i < n → T (positive (over (v cap weights i) top))
     good-is i h = subst (λ (x : Float). T (positive x)) (at-is i h) (good-at l all i (rw long h))
 
-    go : Top cap ts n top → Shares l
-    go (none e) = absurd (over-zero (v cap ts 0) (subst (λ (y : Float). T (positive (over (v cap ts 0) y))) e (good-is 0 some-one)))
+    go : Top cap weights n top → Shares l
+    go (none e) = absurd (over-zero (v cap weights 0) (subst (λ (y : Float). T (positive (over (v cap weights 0) y))) e (good-is 0 some-one)))
     go (some j h e p) =
         record {
-          above = λ i k. rw (at-is i (rw long at k)) (and-r (finite (over (v cap ts i) top)) _ (good-is i (rw long at k)));
+          above = λ i k. rw (at-is i (rw long at k)) (and-r (finite (over (v cap weights i) top)) _ (good-is i (rw long at k)));
           most =
               λ i k.
               let g = good-is i (rw long at k) in
-              rw (at-is i (rw long at k)) (le-one (v cap ts i) top p g (largest cap ts .most i (rw long at k) (over-number (v cap ts i) top g)));
+              rw (at-is i (rw long at k)) (le-one (v cap weights i) top p g (largest cap weights .most i (rw long at k) (over-number (v cap weights i) top g)));
           whole = j;
           within = rw long h;
           is-one =

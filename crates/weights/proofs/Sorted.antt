@@ -44,10 +44,10 @@ unfolding insertOf Each
 each-insert P x [] p h = (p, h)
 each-insert P x (y ∷ ys) p h = (cond-ind P (lt x y) p (h .0), each-insert P (greater x y) ys (cond-ind P (lt x y) (h .0) p) (h .1))
 
-each-sort : (P : Float → Type 0) (ts : List Float) → Each P ts → Each P (sortOf ts)
+each-sort : (P : Float → Type 0) (weights : List Float) → Each P weights → Each P (sortOf weights)
 unfolding sortOf Each
 each-sort P [] h = tt
-each-sort P (w ∷ ts) h = each-insert P w (sortOf ts) (h .0) (each-sort P ts (h .1))
+each-sort P (w ∷ weights) h = each-insert P w (sortOf weights) (h .0) (each-sort P weights (h .1))
 
 each-both : (P Q R : Float → Type 0) → ((z : Float) → P z → Q z → R z) → (ys : List Float) → Each P ys → Each Q ys → Each R ys
 unfolding Each
@@ -87,10 +87,10 @@ rising-insert x (y ∷ ys) p n h =
     )
 
 -- of weights none of which is NaN
-pub rising-sort : (ts : List Float) → Each Number ts → Rising (sortOf ts)
+pub rising-sort : (weights : List Float) → Each Number weights → Rising (sortOf weights)
 unfolding sortOf Each Rising
 rising-sort [] h = tt
-rising-sort (w ∷ ts) h = rising-insert w (sortOf ts) (h .0) (each-sort Number ts (h .1)) (rising-sort ts (h .1))
+rising-sort (w ∷ weights) h = rising-insert w (sortOf weights) (h .0) (each-sort Number weights (h .1)) (rising-sort weights (h .1))
 
 -- ---- each is there as often, whatever is counted
 
@@ -103,23 +103,23 @@ count-insert t x (y ∷ ys) = rw (count-insert t (greater x y) ys) (go (lt x y))
     go true = refl
     go false = omega arith
 
-pub count-sort : (t : Float → Bool) (ts : List Float) → count t (sortOf ts) ≡ count t ts
+pub count-sort : (t : Float → Bool) (weights : List Float) → count t (sortOf weights) ≡ count t weights
 unfolding sortOf count
 count-sort t [] = refl
-count-sort t (w ∷ ts) = count-insert t w (sortOf ts) ∙ ap (λ n. cond (t w) 1 0 + n) (count-sort t ts)
+count-sort t (w ∷ weights) = count-insert t w (sortOf weights) ∙ ap (λ n. cond (t w) 1 0 + n) (count-sort t weights)
 
 -- ---- the median is the middle: of 2 h + 1 weights the one at h, of 2 h half way between the two
 
-pub median-odd : (ts : List Float) (h : ℕ) → length ts ≡ 2 * h + 1 → medianOf ts ≡ at (sortOf ts) h
+pub median-odd : (weights : List Float) (h : ℕ) → length weights ≡ 2 * h + 1 → medianOf weights ≡ at (sortOf weights) h
 unfolding midOf
-median-odd ts h e =
-    let n = length ts in
+median-odd weights h e =
+    let n = length weights in
     let half : n / 2 ≡ h = omega arith in
     rw (ne-eqb (n % 2) 0 (λ z. omega arith), half)
 
-pub median-even : (ts : List Float) (h : ℕ) → length ts ≡ 2 * h → medianOf ts ≡ between (at (sortOf ts) (h - 1)) (at (sortOf ts) h)
+pub median-even : (weights : List Float) (h : ℕ) → length weights ≡ 2 * h → medianOf weights ≡ between (at (sortOf weights) (h - 1)) (at (sortOf weights) h)
 unfolding midOf
-median-even ts h e =
-    let n = length ts in
+median-even weights h e =
+    let n = length weights in
     let half : n / 2 ≡ h = omega arith in
     rw (eq-eqb (n % 2) 0 (omega arith), half)

@@ -27,7 +27,7 @@ insertOf x (y ∷ ys) = lesser x y ∷ insertOf (greater x y) ys
 
 unfoldable pub sortOf : List Float → List Float
 sortOf [] = []
-sortOf (t ∷ ts) = insertOf t (sortOf ts)
+sortOf (t ∷ weights) = insertOf t (sortOf weights)
 
 -- half way from lo to hi
 abbrev pub between : Float → Float → Float
@@ -38,23 +38,23 @@ unfoldable pub midOf : ℕ → List Float → Float
 midOf n s = cond (eqb (n % 2) 0) (between (at s (n / 2 - 1)) (at s (n / 2))) (at s (n / 2))
 
 abbrev pub medianOf : List Float → Float
-medianOf ts = midOf (length ts) (sortOf ts)
+medianOf weights = midOf (length weights) (sortOf weights)
 
 -- ---- the cap
 
 abbrev pub capOf : Float → List Float → Float
-capOf ratio ts = ratio *f medianOf ts
+capOf ratio weights = ratio *f medianOf weights
 
 -- the positions of the weights above a cap, counted from 0, rising
 unfoldable pub cappedAt : Float → List Float → List ℕ
-cappedAt cap ts = for 0 (length ts) (λ i l. cond (lt cap (at ts i)) (l ++ (i ∷ [])) l) []
+cappedAt cap weights = for 0 (length weights) (λ i l. cond (lt cap (at weights i)) (l ++ (i ∷ [])) l) []
 
 abbrev pub cappedOf : Float → List Float → List ℕ
-cappedOf ratio ts = cappedAt (capOf ratio ts) ts
+cappedOf ratio weights = cappedAt (capOf ratio weights) weights
 
 -- the largest of the weights, each at most the cap
 unfoldable pub topOf : Float → List Float → Float
-topOf cap ts = for 0 (length ts) (λ i top. maxOf top (minOf (at ts i) cap)) +0
+topOf cap weights = for 0 (length weights) (λ i top. maxOf top (minOf (at weights i) cap)) +0
 
 -- ---- the scaled weights
 
@@ -63,15 +63,15 @@ scaleOne cap top t = minOf t cap /f top
 
 -- each is at most the cap, over the largest such
 abbrev pub scaledOf : Float → List Float → List Float
-scaledOf ratio ts = map (scaleOne (capOf ratio ts) (topOf (capOf ratio ts) ts)) ts
+scaledOf ratio weights = map (scaleOne (capOf ratio weights) (topOf (capOf ratio weights) weights)) weights
 
 -- each of the first n is finite and positive
 abbrev pub goodFirst : ℕ → List Float → Bool
-goodFirst n ts = for 0 n (λ i good. good && positive (at ts i)) true
+goodFirst n weights = for 0 n (λ i good. good && positive (at weights i)) true
 
 -- check 5: each is finite and positive
 unfoldable pub allGood : List Float → Bool
-allGood ts = goodFirst (length ts) ts
+allGood weights = goodFirst (length weights) weights
 
 -- ---- what step 3 hands on
 
@@ -80,13 +80,13 @@ abbrev pub zeros : List Float
 zeros = replicate 256 +0
 
 unfoldable pub weighed : Float → List Float → Weights
-weighed ratio ts =
-    record { ok = allGood (scaledOf ratio ts); cap = capOf ratio ts; w = atFront (scaledOf ratio ts) zeros }
+weighed ratio weights =
+    record { ok = allGood (scaledOf ratio weights); cap = capOf ratio weights; w = atFront (scaledOf ratio weights) zeros }
 
 -- of 1 to 256 weights
 unfoldable pub weightsOf : Float → List Float → Weights
-weightsOf ratio ts =
+weightsOf ratio weights =
     let nothing : Weights = record { ok = false; cap = +0; w = zeros } in
-    unless (leb 1 (length ts)) nothing
-    (unless (leb (length ts) 256) nothing
-    (weighed ratio ts))
+    unless (leb 1 (length weights)) nothing
+    (unless (leb (length weights) 256) nothing
+    (weighed ratio weights))

@@ -31,14 +31,14 @@ fn insert(a: [f64; 256], n: usize, x: f64) -> [f64; 256]
 }
 
 // The weights in ascending order, in the first places of the room.
-fn sort(room: [f64; 256], ws: &[f64]) -> [f64; 256]
-    requires { ⌜ length (now ws) ≤ 256 ⌝ }
-    ensures { λ r. ⌜ r ≡ atFront (sortOf (now (ws .entry))) room ⌝ }
+fn sort(room: [f64; 256], weights: &[f64]) -> [f64; 256]
+    requires { ⌜ length (now weights) ≤ 256 ⌝ }
+    ensures { λ r. ⌜ r ≡ atFront (sortOf (now (weights .entry))) room ⌝ }
 {
-    let n = ws.len();
+    let n = weights.len();
     let mut a = room;
     for m in 0..n {
-        let w = ws[n - 1 - m];
+        let w = weights[n - 1 - m];
         let next = insert(a, m, w);
         a = next;
     }
@@ -60,24 +60,24 @@ fn middle(a: [f64; 256], n: usize) -> f64
 }
 
 // The largest capped weight, or 0.
-fn top(ws: &[f64], cap: f64) -> f64
-    ensures { λ r. ⌜ r ≡ topOf cap (now (ws .entry)) ⌝ }
+fn top(weights: &[f64], cap: f64) -> f64
+    ensures { λ r. ⌜ r ≡ topOf cap (now (weights .entry)) ⌝ }
 {
     let mut t = 0.0;
-    for i in 0..ws.len() {
-        t = bits::max(t, bits::min(ws[i], cap));
+    for i in 0..weights.len() {
+        t = bits::max(t, bits::min(weights[i], cap));
     }
     t
 }
 
 // Each weight, capped, over the largest, in the first places of the room.
-fn scale(room: [f64; 256], ws: &[f64], cap: f64, most: f64) -> [f64; 256]
-    requires { ⌜ length (now ws) ≤ 256 ⌝ }
-    ensures { λ r. ⌜ r ≡ atFront (map (scaleOne cap most) (now (ws .entry))) room ⌝ }
+fn scale(room: [f64; 256], weights: &[f64], cap: f64, most: f64) -> [f64; 256]
+    requires { ⌜ length (now weights) ≤ 256 ⌝ }
+    ensures { λ r. ⌜ r ≡ atFront (map (scaleOne cap most) (now (weights .entry))) room ⌝ }
 {
     let mut a = room;
-    for i in 0..ws.len() {
-        a[i] = bits::min(ws[i], cap) / most;
+    for i in 0..weights.len() {
+        a[i] = bits::min(weights[i], cap) / most;
     }
     a
 }
@@ -96,17 +96,17 @@ fn all_good(a: [f64; 256], n: usize) -> bool
 }
 
 // The room is filled with the sorted weights, for the median, and then with the scaled ones.
-fn weigh(ws: &[f64], ratio: f64) -> Weights
-    requires { ⌜ (1 ≤ length (now ws)) × (length (now ws) ≤ 256) ⌝ }
-    ensures { λ r. ⌜ r ≡ weighed ratio (now (ws .entry)) ⌝ }
+fn weigh(weights: &[f64], ratio: f64) -> Weights
+    requires { ⌜ (1 ≤ length (now weights)) × (length (now weights) ≤ 256) ⌝ }
+    ensures { λ r. ⌜ r ≡ weighed ratio (now (weights .entry)) ⌝ }
 {
-    let n = ws.len();
+    let n = weights.len();
     let mut room = [0.0; 256];
-    let sorted = sort(room, ws);
+    let sorted = sort(room, weights);
     room = sorted;
     let cap = ratio * middle(room, n);
-    let most = top(ws, cap);
-    let scaled = scale(room, ws, cap, most);
+    let most = top(weights, cap);
+    let scaled = scale(room, weights, cap, most);
     room = scaled;
     Weights {
         ok: all_good(room, n),
@@ -116,10 +116,10 @@ fn weigh(ws: &[f64], ratio: f64) -> Weights
 }
 
 // The weights of step 3; of none, and of more than 256, nothing is made.
-pub fn weights_of(ws: &[f64], ratio: f64) -> Weights
-    ensures { λ r. ⌜ r ≡ weightsOf ratio (now (ws .entry)) ⌝ }
+pub fn weights_of(weights: &[f64], ratio: f64) -> Weights
+    ensures { λ r. ⌜ r ≡ weightsOf ratio (now (weights .entry)) ⌝ }
 {
-    let n = ws.len();
+    let n = weights.len();
     if n < 1 {
         return Weights {
             ok: false,
@@ -134,5 +134,5 @@ pub fn weights_of(ws: &[f64], ratio: f64) -> Weights
             w: [0.0; 256],
         };
     }
-    weigh(ws, ratio)
+    weigh(weights, ratio)
 }

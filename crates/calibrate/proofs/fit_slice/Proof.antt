@@ -34,8 +34,8 @@ returns-2 c =
     ∙ number-no _ (λ (n : ℕ). refusedEarly n (length (a .k .now)) (a .config .«min_observations»)) (entry-five (a .tau) (a .config) (a .k .now) (a .w .now) (a .weight .now) _ _ (sym (c .before .before .before .before .checks .ensures) ∙ c .before .before .before .if1 .left) (sym (ok-is (a .config .«max_weight_ratio») (a .config) (a .k .now) (a .w .now) (a .weight .now) s (c .before .before .weights-of .result) (c .before .before .weights-of .ensures)) ∙ not-true _ (c .before .if2 .taken))) (λ z. omega arith))
     (λ z. let y : _≡_ {A = ℕ} 5 0 = sym (ap (λ (r : FitAnswer). r .number) (c .refused-early2 .ensures)) ∙ z in omega arith)
 
-array-share-prefix-ts : tie.Need-array-share-prefix-ts
-array-share-prefix-ts c =
+array-share-prefix-weights : tie.Need-array-share-prefix-weights
+array-share-prefix-weights c =
     let a = c .before .before .before .before .before .before .before .before .before .before .args in
     let s = passed (a .tau) (a .config) (a .k .now) (a .w .now) (a .weight .now) _ _ (sym (c .before .before .before .before .checks .ensures) ∙ c .before .before .before .if1 .left) .sized in
     scaled-within (a .config .«max_weight_ratio») (a .config) (a .k .now) (a .w .now) (a .weight .now) s (c .before .before .weights-of .result) (c .before .before .weights-of .ensures)
@@ -54,7 +54,7 @@ decided-requires c κs =
       least = s .least;
       most = s .most;
       ws-long = s .ws-long;
-      ts-long = scaled-long (a .config .«max_weight_ratio») (a .config) (a .k .now) (a .w .now) (a .weight .now) s (c .before .before .before .weights-of .result) (c .before .before .before .weights-of .ensures) ∙ s .ts-long;
+      weights-long = scaled-long (a .config .«max_weight_ratio») (a .config) (a .k .now) (a .w .now) (a .weight .now) s (c .before .before .before .weights-of .result) (c .before .before .before .weights-of .ensures) ∙ s .weights-long;
       grid = s .grid;
       refinements = s .refinements;
       recentres = s .recentres;
@@ -82,7 +82,7 @@ list-capped-requires : tie.Need-list-capped-requires
 list-capped-requires c κs =
     let a = c .before .before .before .before .before .before .before .before .before .before .before .before .before .before .before .before .before .before .before .args in
     let p = passed (a .tau) (a .config) (a .k .now) (a .w .now) (a .weight .now) _ _ (sym (c .before .before .before .before .before .before .before .before .before .before .before .before .before .checks .ensures) ∙ c .before .before .before .before .before .before .before .before .before .before .before .before .if1 .left) in
-    omega (arith, p .sized .ts-long, p .places)
+    omega (arith, p .sized .weights-long, p .places)
 
 returns-4 : tie.Need-returns-4
 returns-4 c =
@@ -103,7 +103,7 @@ fit-slice-spec =
     (λ c κs. tt)
     (λ c κs. tt)
     returns-2
-    array-share-prefix-ts
+    array-share-prefix-weights
     slice-aggregate-decided
     decided-requires
     returns-3

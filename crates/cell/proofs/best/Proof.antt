@@ -22,18 +22,18 @@ use Rattle.cell.proofs.best.Statement.{statement}
 use Rattle.cell.proofs.best.Tie as tie
 
 abbrev Inv-loop : tie.InvT-loop
-Inv-loop b g h ys hs ws ts pivot scale slack best₀ limit f₀ t₀ best f t =
+Inv-loop b g h ys hs ws weights pivot scale slack best₀ limit f₀ t₀ best f t =
     (1 ≤ t) × (t ≤ 64) × (f ≡ faceAt 3 7 (t - 1))
-    × (for t 64 (λ t b'. pickOf (tryOf (objectiveAt ys hs ws ts) (problemIn b g h pivot slack) (faceAt 3 7 t)) b') best
-    ≡ bestOf (objectiveAt ys hs ws ts) (problemIn b g h pivot slack) 64)
+    × (for t 64 (λ t b'. pickOf (tryOf (objectiveAt ys hs ws weights) (problemIn b g h pivot slack) (faceAt 3 7 t)) b') best
+    ≡ bestOf (objectiveAt ys hs ws weights) (problemIn b g h pivot slack) 64)
 
 abbrev μ-loop : tie.MeasureT-loop
-μ-loop b g h ys hs ws ts pivot scale slack best₀ limit f₀ t₀ best f t = 64 - t
+μ-loop b g h ys hs ws weights pivot scale slack best₀ limit f₀ t₀ best f t = 64 - t
 
 returns : tie.Need-returns Inv-loop μ-loop
 returns c =
     let a = c .before .before .before .before .before .args in
-    let o = objectiveAt (a .ys .now) (a .hs .now) (a .ws .now) (a .ts .now) in
+    let o = objectiveAt (a .ys .now) (a .hs .now) (a .ws .now) (a .weights .now) in
     let p = problemIn (a .b .now) (a .g .now) (a .h .now) (a .pivot) (a .slack) in
     let no = sym (c .before .positive .ensures) ∙ not-true _ (c .if1 .taken) in
     let none : (t : ℕ) → 0 < t → t < 64 → tryOf o p (faceAt 3 7 t) .some ≡ false =
@@ -56,7 +56,7 @@ loop-again : tie.Need-loop-again Inv-loop μ-loop
 loop-again c =
     let l = c .before .before .before .before .loop in
     let a = c .before .before .before .before .before .before .before .before .before .before .args in
-    let o = objectiveAt (a .ys .now) (a .hs .now) (a .ws .now) (a .ts .now) in
+    let o = objectiveAt (a .ys .now) (a .hs .now) (a .ws .now) (a .weights .now) in
     let p = problemIn (a .b .now) (a .g .now) (a .h .now) (a .pivot) (a .slack) in
     let e = stepped fit-order (l .t) (l .f) (c .before .before .next .result) (l .inv .0) (c .before .before .before .loop-test .taken) (l .inv .2) (c .before .before .next .ensures) in
     let f = e ∙ ap (faceAt 3 7) (one-back (l .t)) in

@@ -22,7 +22,7 @@ returns c =
     let a = s .args in
     let y = g .fill-ys .ensures in
     let h = lengths-in-range _ _ _ _ (s .pre .0) (f .with-one .ensures) ∙ ap (λ (t : List Float). filledOn (length (a .ks .now)) (λ i. hOf (at t i)) (a .hs .now)) y in
-    (c .posed .ensures ∙ ap₂ (λ (y h : List Float). posedOf fitModel (at y) (at h) (a .ws .now) (a .ts .now) (a .l) (a .sigma)) y h, (y, h))
+    (c .posed .ensures ∙ ap₂ (λ (y h : List Float). posedOf fitModel (at y) (at h) (a .ws .now) (a .weights .now) (a .l) (a .sigma)) y h, (y, h))
 
 pub cell-at-spec : {M : Type 1} → statement M
 cell-at-spec =

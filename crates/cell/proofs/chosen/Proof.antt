@@ -16,7 +16,7 @@ returns : tie.Need-returns
 unfolding chosenOf chosenFrom
 returns c =
     let a = c .before .before .before .before .before .args in
-    let o = objectiveAt (a .ys .now) (a .hs .now) (a .ws .now) (a .ts .now) in
+    let o = objectiveAt (a .ys .now) (a .hs .now) (a .ws .now) (a .weights .now) in
     let p = problemIn (a .b .now) (a .g .now) (a .h .now) (a .pivot) (a .slack) in
     if-true _ (c .before .if1 .taken) (c .cell-from .ensures) ∙ ap (chosenFrom o p 64) (c .before .before .empty .ensures)
 
@@ -31,7 +31,7 @@ returns-2 : tie.Need-returns-2
 unfolding chosenOf chosenFrom
 returns-2 c =
     let a = c .before .before .before .before .before .before .before .args in
-    let o = objectiveAt (a .ys .now) (a .hs .now) (a .ws .now) (a .ts .now) in
+    let o = objectiveAt (a .ys .now) (a .hs .now) (a .ws .now) (a .weights .now) in
     let p = problemIn (a .b .now) (a .g .now) (a .h .now) (a .pivot) (a .slack) in
     if-false _ (c .before .before .before .if1 .left) (c .cell-from2 .ensures ∙ ap (λ (t : Tried). cellFrom t 64) (c .before .best .ensures)) ∙ ap (chosenFrom o p 64) (c .before .before .before .before .empty .ensures)
 

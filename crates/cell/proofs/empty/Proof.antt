@@ -20,7 +20,7 @@ use Rattle.cell.proofs.empty.Tie as tie
 returns : tie.Need-returns
 returns c =
     let a = c .before .before .before .before .before .args in
-    let o = objectiveAt (a .ys .now) (a .hs .now) (a .ws .now) (a .ts .now) in
+    let o = objectiveAt (a .ys .now) (a .hs .now) (a .ws .now) (a .weights .now) in
     let p = problemIn (a .b .now) (a .g .now) (a .h .now) (a .pivot) (a .slack) in
     let e = scale-empty (a .b .now) (a .g .now) ∙ sym (c .before .before .before .before .before .pre .2) in
     let no = sym (c .before .before .positive .ensures) ∙ not-true _ (c .before .if1 .taken) in
@@ -32,7 +32,7 @@ candidate-requires c κs = (good-at fit-order 0 _ (omega arith) (sym (fit-order 
 returns-2 : tie.Need-returns-2
 returns-2 c =
     let a = c .before .before .before .before .before .before .before .args in
-    let o = objectiveAt (a .ys .now) (a .hs .now) (a .ws .now) (a .ts .now) in
+    let o = objectiveAt (a .ys .now) (a .hs .now) (a .ws .now) (a .weights .now) in
     let p = problemIn (a .b .now) (a .g .now) (a .h .now) (a .pivot) (a .slack) in
     let e = scale-empty (a .b .now) (a .g .now) ∙ sym (c .before .before .before .before .before .before .before .pre .2) in
     let yes = sym (c .before .before .before .before .positive .ensures) ∙ not-false _ (c .before .before .before .if1 .left) in
@@ -43,7 +43,7 @@ returns-2 c =
 returns-3 : tie.Need-returns-3
 returns-3 c =
     let a = c .before .before .before .before .before .before .before .before .before .before .before .before .args in
-    let o = objectiveAt (a .ys .now) (a .hs .now) (a .ws .now) (a .ts .now) in
+    let o = objectiveAt (a .ys .now) (a .hs .now) (a .ws .now) (a .weights .now) in
     let p = problemIn (a .b .now) (a .g .now) (a .h .now) (a .pivot) (a .slack) in
     let e = scale-empty (a .b .now) (a .g .now) ∙ sym (c .before .before .before .before .before .before .before .before .before .before .before .before .pre .2) in
     let yes = sym (c .before .before .before .before .before .before .before .before .before .positive .ensures) ∙ not-false _ (c .before .before .before .before .before .before .before .before .if1 .left) in

@@ -18,7 +18,7 @@ returns c =
     let a = c .before .before .before .before .before .before .before .args in
     let e = c .cell-at .ensures in
     let t = c .before .before .before .if1 .taken in
-    (posed-on (a .ks .now) (a .ws .now) (a .ts .now) (a .l) (a .m) (a .sigma) (a .ys .now) (a .hs .now) t (e .0), (if-true {x = ysOn (a .ks .now) (a .m) (a .sigma) (a .ys .now)} (a .ys .now) t (e .1 .0), if-true {x = hsOn (a .ks .now) (a .m) (a .sigma) (a .ys .now) (a .hs .now)} (a .hs .now) t (e .1 .1)))
+    (posed-on (a .ks .now) (a .ws .now) (a .weights .now) (a .l) (a .m) (a .sigma) (a .ys .now) (a .hs .now) t (e .0), (if-true {x = ysOn (a .ks .now) (a .m) (a .sigma) (a .ys .now)} (a .ys .now) t (e .1 .0), if-true {x = hsOn (a .ks .now) (a .m) (a .sigma) (a .ys .now) (a .hs .now)} (a .hs .now) t (e .1 .1)))
 
 returns-2 : tie.Need-returns-2
 unfolding innerOn

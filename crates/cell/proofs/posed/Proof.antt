@@ -20,7 +20,7 @@ unfolding posedOf
 returns c =
     let a = c .before .before .before .before .before .before .before .before .before .before .before .before .before .before .before .args in
     c .chosen .ensures
-    ∙ ap (λ (p : Problem). chosenOf (objectiveAt (a .ys .now) (a .hs .now) (a .ws .now) (a .ts .now)) p 64)
+    ∙ ap (λ (p : Problem). chosenOf (objectiveAt (a .ys .now) (a .hs .now) (a .ws .now) (a .weights .now)) p 64)
     (posed-is (c .before .before .before .before .before .before .before .before .before .before .before .before .normal-sum .result) _ (a .sigma) (a .l) (c .before .before .before .before .before .before .before .before .before .before .before .doubled .result) (c .before .before .before .before .before .before .before .before .rows .result) (c .before .before .before .before .before .before .before .bounds .result) (c .before .before .before .before .before .spread .result)
     (c .before .before .before .before .before .before .before .before .before .before .before .before .normal-sum .ensures) (c .before .before .before .before .before .before .before .before .before .before .before .doubled .ensures) (c .before .before .before .before .before .before .before .before .rows .ensures) (c .before .before .before .before .before .before .before .bounds .ensures) (c .before .before .before .before .before .spread .ensures))
 

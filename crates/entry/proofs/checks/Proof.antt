@@ -19,7 +19,7 @@ returns-2 c = goes _ (c .before .before .before .lengths-hold .ensures) (c .befo
 all-pass-requires : tie.Need-all-pass-requires
 all-pass-requires c κs =
     let l = lengths-are _ _ _ _ _ (sym (c .before .before .before .lengths-hold .ensures) ∙ not-false _ (c .before .before .if1 .left)) in
-    (l .ws-long, l .ts-long)
+    (l .ws-long, l .weights-long)
 
 returns-3 : tie.Need-returns-3
 unfolding checksNumber

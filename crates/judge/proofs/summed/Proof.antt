@@ -12,10 +12,10 @@ use Rattle.judge.proofs.summed.Statement.{statement}
 use Rattle.judge.proofs.summed.Tie as tie
 
 abbrev Inv-loop : tie.InvT-loop
-Inv-loop s k w ts t₀ i₀ i-end t i = for i (length k) (λ i t. addedTo t (residualAt s (at k i) (at w i)) (at w i) (at ts i)) t ≡ sumsOf s k w ts
+Inv-loop s k w weights t₀ i₀ i-end t i = for i (length k) (λ i t. addedTo t (residualAt s (at k i) (at w i)) (at w i) (at weights i)) t ≡ sumsOf s k w weights
 
 abbrev μ-loop : tie.MeasureT-loop
-μ-loop s k w ts t₀ i₀ i-end t i = length k - i
+μ-loop s k w weights t₀ i₀ i-end t i = length k - i
 
 loop-holds : tie.Need-loop-holds Inv-loop μ-loop
 unfolding sumsOf
@@ -25,7 +25,7 @@ loop-again : tie.Need-loop-again Inv-loop μ-loop
 loop-again c =
     let l = c .before .before .before .before .before .before .before .loop in
     let a = c .before .before .before .before .before .before .before .before .before .before .before .args in
-    again _ _ _ (c .before .before .before .before .before .before .loop-test .taken) (c .added .ensures ∙ ap (λ (r : Residual). addedTo (l .t) r (at (a .w .now) (l .i)) (at (a .ts .now) (l .i))) (c .before .before .before .residual-at .ensures)) (l .inv)
+    again _ _ _ (c .before .before .before .before .before .before .loop-test .taken) (c .added .ensures ∙ ap (λ (r : Residual). addedTo (l .t) r (at (a .w .now) (l .i)) (at (a .weights .now) (l .i))) (c .before .before .before .residual-at .ensures)) (l .inv)
 
 returns : tie.Need-returns Inv-loop μ-loop
 returns c = ended _ _ _ (c .loop-test .left) (c .before .loop .inv)

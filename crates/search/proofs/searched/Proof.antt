@@ -12,10 +12,10 @@ use Rattle.search.proofs.searched.Statement.{statement}
 use Rattle.search.proofs.searched.Tie as tie
 
 abbrev Inv-loop : tie.InvT-loop
-Inv-loop ks ws ts l p limit s₀ t₀ s t = (t ≤ limitOf p) × (s ≡ afterPasses (fitCell ks ws ts l) p t)
+Inv-loop ks ws weights l p limit s₀ t₀ s t = (t ≤ limitOf p) × (s ≡ afterPasses (fitCell ks ws weights l) p t)
 
 abbrev μ-loop : tie.MeasureT-loop
-μ-loop ks ws ts l p limit s₀ t₀ s t = limitOf p - t
+μ-loop ks ws weights l p limit s₀ t₀ s t = limitOf p - t
 
 mul-limit : tie.Need-mul-limit Inv-loop μ-loop
 mul-limit c = let z = sizes-are _ (c .before .before .before .before .pre) in omega (arith, z .recentres)
@@ -37,7 +37,7 @@ step-requires c κs =
     let a = c .before .before .before .before .before .before .before .before .before .before .args in
     let l = c .before .before .before .loop in
     let z = sizes-are (a .p) (c .before .before .before .before .before .before .before .before .before .before .pre) in
-    rw (l .inv .1) (roomy (fitCell (a .ks .now) (a .ws .now) (a .ts .now) (a .l)) (fit-most (a .ks .now) (a .ws .now) (a .ts .now) (a .l)) (a .p) (z .grid) (z .refinements) (z .recentres) (l .t) (l .inv .0))
+    rw (l .inv .1) (roomy (fitCell (a .ks .now) (a .ws .now) (a .weights .now) (a .l)) (fit-most (a .ks .now) (a .ws .now) (a .weights .now) (a .l)) (a .p) (z .grid) (z .refinements) (z .recentres) (l .t) (l .inv .0))
 
 add-t : tie.Need-add-t Inv-loop μ-loop
 add-t c = let z = sizes-are _ (c .before .before .before .before .before .before .before .before .before .before .before .pre) in omega (arith, c .before .before .before .loop-test .taken, z .recentres, z .refinements)

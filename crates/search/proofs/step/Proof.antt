@@ -24,9 +24,9 @@ counted-requires c κs =
     let g = c .before .before .before .before .pre in
     let n = a .p .n in
     let w = a .s .window in
-    let f = fitCell (a .ks .now) (a .ws .now) (a .ts .now) (a .l) in
+    let f = fitCell (a .ks .now) (a .ws .now) (a .weights .now) (a .l) in
     let k : CountsTo f w n (c .pass .result) (n * n) (sum n (λ i. sum n (facesAt f w n i))) = rw (c .pass .ensures) (rows-counts f w n n) in
-    let m = sum-most n (n * 64) (λ i. sum n (facesAt f w n i)) (λ i h. sum-most n 64 (facesAt f w n i) (λ j h. fit-most (a .ks .now) (a .ws .now) (a .ts .now) (a .l) _ _)) in
+    let m = sum-most n (n * 64) (λ i. sum n (facesAt f w n i)) (λ i h. sum-most n 64 (facesAt f w n i) (λ j h. fit-most (a .ks .now) (a .ws .now) (a .weights .now) (a .l) _ _)) in
     let z = grid-cells n n (le-refl _) (g .grid) in
     let y : n * (n * 64) ≡ n * n * 64 = sym (mul-assoc n n 64) in
     omega (arith, g .passes, g .cells, g .faces, k .cells, k .faces, m, z, y)

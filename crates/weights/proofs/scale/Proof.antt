@@ -10,10 +10,10 @@ use Rattle.weights.proofs.scale.Statement.{statement}
 use Rattle.weights.proofs.scale.Tie as tie
 
 abbrev Inv-loop : tie.InvT-loop
-Inv-loop ws cap most a₀ i₀ i-end a i = Scaling (scaleOne cap most) ws a₀ i a
+Inv-loop weights cap most a₀ i₀ i-end a i = Scaling (scaleOne cap most) weights a₀ i a
 
 abbrev μ-loop : tie.MeasureT-loop
-μ-loop ws cap most a₀ i₀ i-end a i = length ws - i
+μ-loop weights cap most a₀ i₀ i-end a i = length weights - i
 
 loop-holds : tie.Need-loop-holds Inv-loop μ-loop
 loop-holds c = (search needs, refl)
@@ -22,10 +22,10 @@ loop-again : tie.Need-loop-again Inv-loop μ-loop
 loop-again c =
     let l = c .before .before .before .loop in
     rw (c .min .ensures)
-    (scale-next (scaleOne (c .before .before .before .before .before .args .cap) (c .before .before .before .before .before .args .most)) (c .before .before .before .before .before .args .ws .now) (c .before .before .before .before .before .args .room) (l .a) (l .i) (c .before .before .loop-test .taken) (omega arith) (l .inv))
+    (scale-next (scaleOne (c .before .before .before .before .before .args .cap) (c .before .before .before .before .before .args .most)) (c .before .before .before .before .before .args .weights .now) (c .before .before .before .before .before .args .room) (l .a) (l .i) (c .before .before .loop-test .taken) (omega arith) (l .inv))
 
 returns : tie.Need-returns Inv-loop μ-loop
-returns c = scale-end (scaleOne (c .before .before .before .args .cap) (c .before .before .before .args .most)) (c .before .before .before .args .ws .now) (c .before .before .before .args .room) (c .before .loop .a) (c .before .loop .i) (c .loop-test .left) (c .before .loop .inv)
+returns c = scale-end (scaleOne (c .before .before .before .args .cap) (c .before .before .before .args .most)) (c .before .before .before .args .weights .now) (c .before .before .before .args .room) (c .before .loop .a) (c .before .loop .i) (c .loop-test .left) (c .before .loop .inv)
 
 pub scale-spec : {M : Type 1} → statement M
 scale-spec =

@@ -12,10 +12,10 @@ use Rattle.weights.proofs.top.Statement.{statement}
 use Rattle.weights.proofs.top.Tie as tie
 
 abbrev Inv-loop : tie.InvT-loop
-Inv-loop ws cap t₀ i₀ i-end t i = for i (length ws) (λ i t. maxOf t (minOf (at ws i) cap)) t ≡ topOf cap ws
+Inv-loop weights cap t₀ i₀ i-end t i = for i (length weights) (λ i t. maxOf t (minOf (at weights i) cap)) t ≡ topOf cap weights
 
 abbrev μ-loop : tie.MeasureT-loop
-μ-loop ws cap t₀ i₀ i-end t i = length ws - i
+μ-loop weights cap t₀ i₀ i-end t i = length weights - i
 
 loop-holds : tie.Need-loop-holds Inv-loop μ-loop
 unfolding topOf

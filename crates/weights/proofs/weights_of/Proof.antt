@@ -15,11 +15,11 @@ returns c = if-false _ (lt-leb 1 _ (c .if1 .taken)) refl
 
 returns-2 : tie.Need-returns-2
 unfolding weightsOf
-returns-2 c = if-true _ (le-leb 1 (length (c .before .before .before .args .ws .now)) (omega arith)) (if-false _ (lt-leb _ 256 (c .if2 .taken)) refl)
+returns-2 c = if-true _ (le-leb 1 (length (c .before .before .before .args .weights .now)) (omega arith)) (if-false _ (lt-leb _ 256 (c .if2 .taken)) refl)
 
 returns-3 : tie.Need-returns-3
 unfolding weightsOf
-returns-3 c = if-true _ (le-leb 1 (length (c .before .before .before .before .args .ws .now)) (omega arith)) (if-true _ (le-leb (length (c .before .before .before .before .args .ws .now)) 256 (omega arith)) (c .weigh .ensures))
+returns-3 c = if-true _ (le-leb 1 (length (c .before .before .before .before .args .weights .now)) (omega arith)) (if-true _ (le-leb (length (c .before .before .before .before .args .weights .now)) 256 (omega arith)) (c .weigh .ensures))
 
 pub weights-of-spec : {M : Type 1} → statement M
 weights-of-spec = tie.close (tie.spec returns returns-2 (λ c κs. search needs) returns-3)

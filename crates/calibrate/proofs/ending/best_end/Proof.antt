@@ -8,7 +8,7 @@ returns : tie.Need-returns
 returns c =
     let a = c .before .before .before .before .before .before .before .before .before .args in
     c .end .ensures
-    ∙ best-is (a .tau) (a .config) (a .range) (a .a-max) (a .best) (a .counts) (a .k .now) (a .w .now) (a .ts .now)
+    ∙ best-is (a .tau) (a .config) (a .range) (a .a-max) (a .best) (a .counts) (a .k .now) (a .w .now) (a .weights .now)
     (c .before .before .before .exp .result) (c .before .before .marks-at .result) (c .before .slice-of .result)
     (c .before .before .before .exp .ensures) (c .before .before .marks-at .ensures) (c .before .slice-of .ensures)
 

@@ -12,10 +12,10 @@ use Rattle.cell.proofs.least.normal_sum.Statement.{statement}
 use Rattle.cell.proofs.least.normal_sum.Tie as tie
 
 abbrev Inv-loop : tie.InvT-loop
-Inv-loop ys hs ws ts n₀ i₀ i-end n i = for i (length ws) (λ i s. withObservation s (at ts i) (at ys i) (at hs i) (at ws i)) n ≡ normalEquations (at ys) (at hs) ws ts
+Inv-loop ys hs ws weights n₀ i₀ i-end n i = for i (length ws) (λ i s. withObservation s (at weights i) (at ys i) (at hs i) (at ws i)) n ≡ normalEquations (at ys) (at hs) ws weights
 
 abbrev μ-loop : tie.MeasureT-loop
-μ-loop ys hs ws ts n₀ i₀ i-end n i = length ws - i
+μ-loop ys hs ws weights n₀ i₀ i-end n i = length ws - i
 
 loop-holds : tie.Need-loop-holds Inv-loop μ-loop
 unfolding normalEquations

@@ -11,10 +11,10 @@ use Rattle.cell.proofs.least.objective.Statement.{statement}
 use Rattle.cell.proofs.least.objective.Tie as tie
 
 abbrev Inv-loop : tie.InvT-loop
-Inv-loop ys hs ws ts x a₀ i₀ i-end a i = for i (length ws) (λ i a. a +f at ts i *f missOf x (at ys i) (at hs i) (at ws i) *f missOf x (at ys i) (at hs i) (at ws i)) a ≡ objectiveAt ys hs ws ts x
+Inv-loop ys hs ws weights x a₀ i₀ i-end a i = for i (length ws) (λ i a. a +f at weights i *f missOf x (at ys i) (at hs i) (at ws i) *f missOf x (at ys i) (at hs i) (at ws i)) a ≡ objectiveAt ys hs ws weights x
 
 abbrev μ-loop : tie.MeasureT-loop
-μ-loop ys hs ws ts x a₀ i₀ i-end a i = length ws - i
+μ-loop ys hs ws weights x a₀ i₀ i-end a i = length ws - i
 
 loop-holds : tie.Need-loop-holds Inv-loop μ-loop
 unfolding objectiveOf

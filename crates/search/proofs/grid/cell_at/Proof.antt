@@ -18,11 +18,11 @@ returns c =
     let y = a .ys .now in
     let h = a .hs .now in
     let e = c .inner-on .ensures in
-    let t = inRange k (a .ws .now) (a .ts .now) in
+    let t = inRange k (a .ws .now) (a .weights .now) in
     let len : List Float → Type 0 = λ l. length l ≡ 256 in
     let p : length y ≡ 256 = s .pre .0 in
     let q : length h ≡ 256 = s .pre .1 in (
-      e .0 ∙ inner-lent k (a .ws .now) (a .ts .now) (a .l) (a .m) (a .sigma) y h (omega (arith, p)) (omega (arith, q)),
+      e .0 ∙ inner-lent k (a .ws .now) (a .weights .now) (a .l) (a .m) (a .sigma) y h (omega (arith, p)) (omega (arith, q)),
       ap (λ (l : List Float). length l) (e .1 .0) ∙ cond-ind len t (ys-length k (a .m) (a .sigma) y h ∙ p) p,
       ap (λ (l : List Float). length l) (e .1 .1) ∙ cond-ind len t (hs-length k (a .m) (a .sigma) y h ∙ q) q,
     )

@@ -22,11 +22,11 @@ use Rattle.search.proofs.grid.pass.Statement.{statement}
 use Rattle.search.proofs.grid.pass.Tie as tie
 
 abbrev Inv-loop : tie.InvT-loop
-Inv-loop ks ws ts l w n best₀ sigmas ys₀ hs₀ i₀ best ys hs i =
-    (i ≤ n) × (best ≡ for 0 i (λ i b. gridRow (fitCell ks ws ts l) w n i b) noBest) × (length ys ≡ 256) × (length hs ≡ 256)
+Inv-loop ks ws weights l w n best₀ sigmas ys₀ hs₀ i₀ best ys hs i =
+    (i ≤ n) × (best ≡ for 0 i (λ i b. gridRow (fitCell ks ws weights l) w n i b) noBest) × (length ys ≡ 256) × (length hs ≡ 256)
 
 abbrev μ-loop : tie.MeasureT-loop
-μ-loop ks ws ts l w n best₀ sigmas ys₀ hs₀ i₀ best ys hs i = n - i
+μ-loop ks ws weights l w n best₀ sigmas ys₀ hs₀ i₀ best ys hs i = n - i
 
 loop-holds : tie.Need-loop-holds Inv-loop μ-loop
 loop-holds c =
@@ -40,9 +40,9 @@ row-requires c κs =
     let z = c .before .before .before .before .before .fill-sigmas in
     let s = c .before .before .before .before .before .before .before .before .before .before .before in
     let a = s .args in
-    let f = fitCell (a .ks .now) (a .ws .now) (a .ts .now) (a .l) in
+    let f = fitCell (a .ks .now) (a .ws .now) (a .weights .now) (a .l) in
     let k : CountsTo f (a .w) (a .n) (l .best) (l .i * a .n) (sum (l .i) (λ i. sum (a .n) (facesAt f (a .w) (a .n) i))) = rw (l .inv .1) (rows-counts f (a .w) (a .n) (l .i)) in
-    let m = sum-most (l .i) (a .n * 64) (λ i. sum (a .n) (facesAt f (a .w) (a .n) i)) (λ i h. sum-most (a .n) 64 (facesAt f (a .w) (a .n) i) (λ j h. fit-most (a .ks .now) (a .ws .now) (a .ts .now) (a .l) _ _)) in
+    let m = sum-most (l .i) (a .n * 64) (λ i. sum (a .n) (facesAt f (a .w) (a .n) i)) (λ i h. sum-most (a .n) 64 (facesAt f (a .w) (a .n) i) (λ j h. fit-most (a .ks .now) (a .ws .now) (a .weights .now) (a .l) _ _)) in
     let g = grid-cells (l .i) (a .n) (l .inv .0) (s .pre) in
     let y : l .i * (a .n * 64) ≡ l .i * a .n * 64 = sym (mul-assoc (l .i) (a .n) 64) in
     (s .pre, omega (arith, k .cells, g), omega (arith, k .faces, m, g, y), z .ensures, l .inv .2, l .inv .3)

@@ -26,24 +26,24 @@ use native.Mathlib.Omega.{arith}
 use Rattle.search.proofs.grid.row.Statement.{statement}
 use Rattle.search.proofs.grid.row.Tie as tie
 
-module _ (t : List Float) (w : Window) (n i : ℕ) (ks ws ts : List Float) (l : Limits) (m : Float) (r : n ≤ 255) (et : t ≡ sigmasOf (w .s) n) (em : m ≡ axisPoint (w .m) n i) where
+module _ (t : List Float) (w : Window) (n i : ℕ) (ks ws weights : List Float) (l : Limits) (m : Float) (r : n ≤ 255) (et : t ≡ sigmasOf (w .s) n) (em : m ≡ axisPoint (w .m) n i) where
   -- a cell at the sigma of point j is the fit's cell at that point
-  same-cell : (j : ℕ) → j < n → innerOf ks ws ts l m (at t j) ≡ cellAt (fitCell ks ws ts l) w n i j
+  same-cell : (j : ℕ) → j < n → innerOf ks ws weights l m (at t j) ≡ cellAt (fitCell ks ws weights l) w n i j
   unfolding sigmasOf sigmaAt fitCell
   same-cell j h =
       let z : n ≤ length (replicate 256 +0) = omega (arith, r, length-replicate 256 +0) in
-      ap₂ (innerOf ks ws ts l) em (ap (λ (t : List Float). at t j) et ∙ filled-at (sigmaAt (w .s) n) nan n j (replicate 256 +0) z h)
+      ap₂ (innerOf ks ws weights l) em (ap (λ (t : List Float). at t j) et ∙ filled-at (sigmaAt (w .s) n) nan n j (replicate 256 +0) z h)
 
   -- and so is a row of them
-  same-row : (k : ℕ) (b : PassBest) → k ≤ n → for 0 k (λ j b. consider b (innerOf ks ws ts l m (at t j)) i j) b ≡ for 0 k (λ j b. consider b (cellAt (fitCell ks ws ts l) w n i j) i j) b
+  same-row : (k : ℕ) (b : PassBest) → k ≤ n → for 0 k (λ j b. consider b (innerOf ks ws weights l m (at t j)) i j) b ≡ for 0 k (λ j b. consider b (cellAt (fitCell ks ws weights l) w n i j) i j) b
   same-row k b h = for-same _ _ k (λ j g s. ap (λ (c : Cell). consider s c i j) (same-cell j (omega arith))) b
 
 abbrev Inv-loop : tie.InvT-loop
-Inv-loop ks ws ts l n sigmas ys₀ hs₀ i m best₀ j₀ ys hs best j =
-    (j ≤ n) × (best ≡ for 0 j (λ j b. consider b (innerOf ks ws ts l m (at sigmas j)) i j) best₀) × (length ys ≡ 256) × (length hs ≡ 256)
+Inv-loop ks ws weights l n sigmas ys₀ hs₀ i m best₀ j₀ ys hs best j =
+    (j ≤ n) × (best ≡ for 0 j (λ j b. consider b (innerOf ks ws weights l m (at sigmas j)) i j) best₀) × (length ys ≡ 256) × (length hs ≡ 256)
 
 abbrev μ-loop : tie.MeasureT-loop
-μ-loop ks ws ts l n sigmas ys₀ hs₀ i m best₀ j₀ ys hs best j = n - j
+μ-loop ks ws weights l n sigmas ys₀ hs₀ i m best₀ j₀ ys hs best j = n - j
 
 loop-holds : tie.Need-loop-holds Inv-loop μ-loop
 loop-holds c =
@@ -61,14 +61,14 @@ considered-requires c κs =
     let p = c .before .before .before .before .before .before in
     let s = p .before .before .before .before in
     let a = s .args in
-    let f = fitCell (a .ks .now) (a .ws .now) (a .ts .now) (a .l) in
+    let f = fitCell (a .ks .now) (a .ws .now) (a .weights .now) (a .l) in
     let k = row-counts f (a .w) (a .n) (a .i) (a .b) (l .j) in
-    let m = sum-most (l .j) 64 (facesAt f (a .w) (a .n) (a .i)) (λ j h. fit-most (a .ks .now) (a .ws .now) (a .ts .now) (a .l) _ _) in
+    let m = sum-most (l .j) 64 (facesAt f (a .w) (a .n) (a .i)) (λ j h. fit-most (a .ks .now) (a .ws .now) (a .weights .now) (a .l) _ _) in
     let t : c .cell-at .result .faces ≤ 64 =
-    rw (c .cell-at .ensures .0, same-cell (a .sigmas .now) (a .w) (a .n) (a .i) (a .ks .now) (a .ws .now) (a .ts .now) (a .l) _ (s .pre .0) (s .pre .3) (p .linspace-at .ensures) (l .j) (c .before .before .before .before .loop-test .taken))
-    (fit-most (a .ks .now) (a .ws .now) (a .ts .now) (a .l) _ _) in
+    rw (c .cell-at .ensures .0, same-cell (a .sigmas .now) (a .w) (a .n) (a .i) (a .ks .now) (a .ws .now) (a .weights .now) (a .l) _ (s .pre .0) (s .pre .3) (p .linspace-at .ensures) (l .j) (c .before .before .before .before .loop-test .taken))
+    (fit-most (a .ks .now) (a .ws .now) (a .weights .now) (a .l) _ _) in
     let e : CountsTo f (a .w) (a .n) (l .best) (a .b .cells + l .j) (a .b .faces + sum (l .j) (facesAt f (a .w) (a .n) (a .i))) =
-    rw (l .inv .1, same-row (a .sigmas .now) (a .w) (a .n) (a .i) (a .ks .now) (a .ws .now) (a .ts .now) (a .l) _ (s .pre .0) (s .pre .3) (p .linspace-at .ensures) (l .j) (a .b) (l .inv .0)) k in
+    rw (l .inv .1, same-row (a .sigmas .now) (a .w) (a .n) (a .i) (a .ks .now) (a .ws .now) (a .weights .now) (a .l) _ (s .pre .0) (s .pre .3) (p .linspace-at .ensures) (l .j) (a .b) (l .inv .0)) k in
     omega (arith, s .pre .0, s .pre .1, s .pre .2, e .cells, e .faces, m, t, l .inv .0)
 
 loop-again : tie.Need-loop-again Inv-loop μ-loop
@@ -84,7 +84,7 @@ returns c =
     let p = c .before .before in
     let s = p .before .before .before .before in
     let a = s .args in
-    (all-done _ _ (omega arith) (l .inv .1 ∙ same-row (a .sigmas .now) (a .w) (a .n) (a .i) (a .ks .now) (a .ws .now) (a .ts .now) (a .l) _ (s .pre .0) (s .pre .3) (p .linspace-at .ensures) (l .j) (a .b) (l .inv .0)), l .inv .2, l .inv .3)
+    (all-done _ _ (omega arith) (l .inv .1 ∙ same-row (a .sigmas .now) (a .w) (a .n) (a .i) (a .ks .now) (a .ws .now) (a .weights .now) (a .l) _ (s .pre .0) (s .pre .3) (p .linspace-at .ensures) (l .j) (a .b) (l .inv .0)), l .inv .2, l .inv .3)
 
 pub row-spec : {M : Type 1} → statement M
 row-spec =
