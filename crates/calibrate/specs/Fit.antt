@@ -67,7 +67,7 @@ limitsFor c ws = limitsOf c (aMaxFor c ws)
 abbrev pub planFor : FitConfig → List Float → Plan
 planFor c ks = planOf c (rangeOf ks)
 
--- the search of observations k, w with the scaled weights t
+-- the search of observations k, w with the scaled weights
 unfoldable pub fitSearch : FitConfig → List Float → List Float → List Float → Search
 fitSearch c ks ws weights = searchOf (fitCell ks ws weights (limitsFor c ws)) (planFor c ks)
 

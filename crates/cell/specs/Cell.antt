@@ -110,7 +110,7 @@ problemOf k n sigma l =
 unfoldable pub posedOf : Model → (ℕ → Float) → (ℕ → Float) → List Float → List Float → Limits → Float → Cell
 posedOf k y h ws weights l sigma = chosenOf (objectiveOf y h ws weights) (problemOf k (normalEquations y h ws weights) sigma l) (k .faces)
 
--- the cell (m, sigma) of a model, over as many k, w and weights t
+-- the cell (m, sigma) of a model, over as many k, w and weights
 unfoldable pub cellOf : Model → List Float → List Float → List Float → Limits → Float → Float → Cell
 cellOf k ks ws weights l m sigma = posedOf k (yOf ks m sigma) (λ i. hOf (yOf ks m sigma i)) ws weights l sigma
 

@@ -13,7 +13,7 @@ use Rattle.faces.specs.Faces.{faceAt}
 use Rattle.cell.specs.Least.{yOf, hOf, normalEquations, objectiveOf}
 use Rattle.cell.specs.Cell.{Problem, tryOf, cellFrom, problemOf}
 
--- the objective of the cell (m, sigma), over observations k, w and weights t
+-- the objective of the cell (m, sigma), over observations k, w and weights
 abbrev pub goalAt : List Float → List Float → List Float → Float → Float → List Float → Float
 goalAt ks ws weights m sigma = objectiveOf (yOf ks m sigma) (λ i. hOf (yOf ks m sigma i)) ws weights
 

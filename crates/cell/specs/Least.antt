@@ -1,5 +1,5 @@
 -- The weighted least squares at (m, sigma): w = a + d y + c h with y = (k - m) / sigma and h = hypot(y, 1). Definitions only.
--- The rows (1, y, h) of the observations are functions of the index; k, w and the weight t are lists.
+-- The rows (1, y, h) of the observations are functions of the index; k, w and the weights are lists.
 -- docs/METHOD.md, 'Five numbers, three of them linear'.
 use mathlib.Core.List.{List, [], _∷_}
 use Prim.Native.Nat.{ℕ}

@@ -14,7 +14,7 @@ use Rattle.moves.specs.declared.Search.{Search}
 use Rattle.search.specs.Search.{CellFn, startOf, searchOf}
 use Rattle.search.specs.Promised.{FaceFn}
 
--- the cell of the fit at (m, ln sigma), over observations k, w and scaled weights t
+-- the cell of the fit at (m, ln sigma), over observations k, w and scaled weights
 unfoldable pub fitCell : List Float → List Float → List Float → Limits → CellFn
 fitCell ks ws weights l m ls = innerOf ks ws weights l m (expOf ls)
 
