@@ -2,37 +2,45 @@
 -- and what is kept is refused before dropping exactly where all of it is. Assumes nothing.
 use Prim.Native.Nat.{ℕ, _*_, _≤_}
 use mathlib.Core.Path.{_≡_, refl, sym, ap, _∙_}
-use mathlib.Core.Bool.{Bool, true, false, _||_, _&&_}
-use mathlib.Core.List.{List, [], _∷_, _++_}
+use mathlib.Core.Bool.{Bool, true, false, not, _||_, _&&_}
+use mathlib.Core.List.{List, [], _∷_, _++_, append-assoc}
 use native.Mathlib.Omega.{arith}
 use lib.Dec.{eqb}
 use lib.ListN.{length}
-use borrow.Author.Tests.{eqb-true, eq-eqb, le-leb}
+use borrow.Author.Tests.{eqb-true, eq-eqb, ne-eqb, le-leb, not-true}
 use Rattle.laws.proofs.Choices.{both, false-true}
 use Rattle.records.specs.declared.FitConfig.{FitConfig}
 use Rattle.records.specs.Settings.{sizesHold}
 use Rattle.house.specs.declared.Quote.{Quote}
 use Rattle.house.specs.Check.{quotePasses, allPass}
-use Rattle.house.specs.Repeats.{sameQuote, among, unrepeated, keptAfter, kept}
+use Rattle.house.specs.Repeats.{sameContent, sameQuote, clash, agrees, allAgree, among, unrepeated, keptAfter, kept}
 use Rattle.house.specs.Taken.{intakeNumber}
 
--- the bits of records that are the same
-same-bits : (a b : Quote) → sameQuote a b ≡ true → (a .k ≡ b .k) × (a .w ≡ b .w) × (a .weight ≡ b .weight)
-unfolding sameQuote
-same-bits a b p =
+-- a record is its four words
+quote-is : {n m k l w x y z : ℕ} → n ≡ m → k ≡ l → w ≡ x → y ≡ z → _≡_ {A = Quote} record { number = n; k = k; w = w; weight = y } record { number = m; k = l; w = x; weight = z }
+quote-is e f g h = rw (e, f, g, h)
+
+-- one content: the bits are equal
+pub content-is : (a b : Quote) → sameContent a b ≡ true → (a .k ≡ b .k) × (a .w ≡ b .w) × (a .weight ≡ b .weight)
+unfolding sameContent
+content-is a b p =
     let x = both (eqb (a .k) (b .k) && eqb (a .w) (b .w)) (eqb (a .weight) (b .weight)) p in
     let y = both (eqb (a .k) (b .k)) (eqb (a .w) (b .w)) (x .0) in
     (eqb-true _ _ (y .0), eqb-true _ _ (y .1), eqb-true _ _ (x .1))
 
+-- records that are the same are one record
+pub same-is : (a b : Quote) → sameQuote a b ≡ true → a ≡ b
+unfolding sameQuote
+same-is a b p =
+    let n = both (eqb (a .number) (b .number)) (sameContent a b) p in
+    let c = content-is a b (n .1) in
+    quote-is (eqb-true _ _ (n .0)) (c .0) (c .1) (c .2)
+
 -- being the same passes on
 same-trans : (a b c : Quote) → sameQuote a b ≡ true → sameQuote b c ≡ true → sameQuote a c ≡ true
-unfolding sameQuote
-same-trans a b c p q =
-    let x = same-bits a b p in
-    let y = same-bits b c q in
-    rw (eq-eqb (a .k) (c .k) (x .0 ∙ y .0), eq-eqb (a .w) (c .w) (x .1 ∙ y .1)) (eq-eqb (a .weight) (c .weight) (x .2 ∙ y .2))
+same-trans a b c p q = ap (λ (x : Quote). sameQuote x c) (same-is a b p) ∙ q
 
-or-true : (a : Bool) {b : Bool} → b ≡ true → (a || b) ≡ true
+pub or-true : (a : Bool) {b : Bool} → b ≡ true → (a || b) ≡ true
 or-true true k = refl
 or-true false k = k
 
@@ -123,10 +131,7 @@ kept-short qs = sub-short (kept-in-order qs)
 -- ---- check 10
 
 same-passes : (a b : Quote) → sameQuote a b ≡ true → quotePasses a ≡ quotePasses b
-unfolding quotePasses
-same-passes a b p =
-    let x = same-bits a b p in
-    rw (x .0, x .1, x .2)
+same-passes a b p = ap quotePasses (same-is a b p)
 
 among-passes : (q : Quote) (es : List Quote) → among q es ≡ true → allPass es ≡ true → quotePasses q ≡ true
 unfolding among allPass
@@ -163,6 +168,98 @@ pub kept-passes : (qs : List Quote) → allPass (kept qs) ≡ allPass qs
 unfolding kept allPass
 kept-passes qs = passing [] qs refl
 
+-- ---- one number, one content
+
+and-assoc : (a b c : Bool) → (a && (b && c)) ≡ ((a && b) && c)
+and-assoc true b c = refl
+and-assoc false b c = refl
+
+-- what is asked behind a is asked only where a holds
+and-same : (a : Bool) {b c : Bool} → (a ≡ true → b ≡ c) → (a && b) ≡ (a && c)
+and-same true f = f refl
+and-same false f = refl
+
+eqb-sym : (a b : ℕ) → eqb a b ≡ eqb b a
+eqb-sym a b = go (eqb a b) refl
+  where
+    go : (x : Bool) → eqb a b ≡ x → eqb a b ≡ eqb b a
+    go true p = p ∙ sym (eq-eqb b a (sym (eqb-true a b p)))
+    go false p = p ∙ sym (ne-eqb b a (λ h. false-true (sym p ∙ eq-eqb a b (sym h))))
+
+clash-sym : (a b : Quote) → clash a b ≡ clash b a
+unfolding clash sameContent
+clash-sym a b = rw (eqb-sym (a .number) (b .number), eqb-sym (a .k) (b .k), eqb-sym (a .w) (b .w), eqb-sym (a .weight) (b .weight))
+
+-- no record clashes with itself
+clash-self : (q : Quote) → clash q q ≡ false
+unfolding clash sameContent
+clash-self q = rw (eq-eqb (q .number) (q .number) refl, eq-eqb (q .k) (q .k) refl, eq-eqb (q .w) (q .w) refl, eq-eqb (q .weight) (q .weight) refl)
+
+agrees-append : (q : Quote) (es fs : List Quote) → agrees q (es ++ fs) ≡ (agrees q es && agrees q fs)
+unfolding agrees
+agrees-append q [] fs = refl
+agrees-append q (e ∷ es) fs = ap (λ (b : Bool). not (clash q e) && b) (agrees-append q es fs) ∙ and-assoc (not (clash q e)) (agrees q es) (agrees q fs)
+
+-- what agrees with all of them agrees with each that is among them
+agrees-each : (x q : Quote) (es : List Quote) → among q es ≡ true → agrees x es ≡ true → clash x q ≡ false
+unfolding among agrees
+agrees-each x q [] h a = false-true h
+agrees-each x q (e ∷ es) h a =
+    let n = both (not (clash x e)) (agrees x es) a in
+    go (sameQuote e q) refl h (not-true (clash x e) (n .0)) (λ r. agrees-each x q es r (n .1))
+  where
+    go : (b : Bool) → sameQuote e q ≡ b → (b || among q es) ≡ true → clash x e ≡ false → (among q es ≡ true → clash x q ≡ false) → clash x q ≡ false
+    go true p h c f = sym (ap (clash x) (same-is e q p)) ∙ c
+    go false p h c f = f h
+
+-- one record more: x agrees as before where it agrees with that one, or where it is among those that x is asked about anyway
+agrees-more : (x q : Quote) (es fs : List Quote) → (agrees x es ≡ true → clash x q ≡ false) → agrees x (es ++ (q ∷ fs)) ≡ agrees x (es ++ fs)
+unfolding agrees
+agrees-more x q es fs c =
+    agrees-append x es (q ∷ fs)
+    ∙ and-same (agrees x es) (λ h. ap (λ (b : Bool). not b && agrees x fs) (c h))
+    ∙ sym (agrees-append x es fs)
+
+-- and all agree as before where it agrees with all the others
+agree-more : (q : Quote) (es fs : List Quote) → agrees q (es ++ fs) ≡ true → allAgree (es ++ (q ∷ fs)) ≡ allAgree (es ++ fs)
+unfolding agrees allAgree
+agree-more q [] fs a = ap (λ (b : Bool). b && allAgree fs) a
+agree-more q (e ∷ es) fs a =
+    let n = both (not (clash q e)) (agrees q (es ++ fs)) a in
+    let c : clash e q ≡ false = clash-sym e q ∙ not-true (clash q e) (n .0) in
+    rw (agrees-more e q es fs (λ h. c), agree-more q es fs (n .1))
+
+-- a repeat changes nothing
+agree-repeat : (q : Quote) (es fs : List Quote) → among q es ≡ true → allAgree (es ++ (q ∷ fs)) ≡ allAgree (es ++ fs)
+unfolding among allAgree
+agree-repeat q [] fs h = false-true h
+agree-repeat q (e ∷ es) fs h = go (sameQuote e q) refl h (λ r. agree-repeat q es fs r)
+  where
+    go : (b : Bool) → sameQuote e q ≡ b → (b || among q es) ≡ true → (among q es ≡ true → allAgree (es ++ (q ∷ fs)) ≡ allAgree (es ++ fs))
+        → (agrees e (es ++ (q ∷ fs)) && allAgree (es ++ (q ∷ fs))) ≡ (agrees e (es ++ fs) && allAgree (es ++ fs))
+    go true p h f =
+        let c : clash e q ≡ false = sym (ap (clash e) (same-is e q p)) ∙ clash-self e in
+        ap (λ (b : Bool). b && allAgree (es ++ (q ∷ fs))) (agrees-more e q es fs (λ h. c))
+        ∙ and-same (agrees e (es ++ fs)) (λ a. agree-more q es fs (sym (ap (λ (x : Quote). agrees x (es ++ fs)) (same-is e q p)) ∙ a))
+    go false p h f = rw (agrees-more e q es fs (agrees-each e q es h), f h)
+
+agreeing : (es qs : List Quote) → allAgree (es ++ keptAfter es qs) ≡ allAgree (es ++ qs)
+unfolding keptAfter unrepeated
+agreeing es [] = refl
+agreeing es (q ∷ qs) = go (among q es) refl (agreeing (es ++ (q ∷ [])) qs)
+  where
+    next : List Quote
+    next = keptAfter (es ++ (q ∷ [])) qs
+
+    go : (b : Bool) → among q es ≡ b → allAgree ((es ++ (q ∷ [])) ++ next) ≡ allAgree ((es ++ (q ∷ [])) ++ qs) → allAgree (es ++ (unrepeated b q ++ next)) ≡ allAgree (es ++ (q ∷ qs))
+    go true p f = sym (agree-repeat q es next p) ∙ ap allAgree (sym (append-assoc es (q ∷ []) next)) ∙ f ∙ ap allAgree (append-assoc es (q ∷ []) qs)
+    go false p f = ap allAgree (sym (append-assoc es (q ∷ []) next)) ∙ f ∙ ap allAgree (append-assoc es (q ∷ []) qs)
+
+-- no number has two contents in the firsts exactly where none has in all of them
+pub kept-agree : (qs : List Quote) → allAgree (kept qs) ≡ allAgree qs
+unfolding kept
+kept-agree qs = agreeing [] qs
+
 -- ---- the number that refuses before dropping
 
 pub sizes-same : (m n : ℕ) (c : FitConfig) → m ≤ 256 → n ≤ 256 → sizesHold m c ≡ sizesHold n c
@@ -180,6 +277,7 @@ kept-intake config qs room slots l h k =
     let few = kept-short qs in
     rw (
       kept-passes qs,
+      kept-agree qs,
       sizes-same m n config (omega arith) l,
       le-leb (m * 4) room (omega arith),
       le-leb m slots (omega arith),

@@ -1,4 +1,4 @@
--- The two searches over the records, for one that fails check 10 and for an earlier one that is the same, and what is kept from the i-th record on. Assumes nothing.
+-- The searches over the records, for one that fails check 10, for a later one that clashes and for an earlier one that is the same, and what is kept from the i-th record on. Assumes nothing.
 use Prim.Native.Nat.{ℕ, zero, suc, _+_, _*_, _-_, _<_, _≤_}
 use mathlib.Core.Path.{_≡_, sym, ap, _∙_}
 use mathlib.Core.Bool.{Bool, true, false, not, _||_, _&&_}
@@ -6,12 +6,34 @@ use mathlib.Core.List.{List, [], _∷_, _++_}
 use native.Mathlib.Omega.{arith}
 use native.Mathlib.Nat.{zero-add, sub-zero}
 use native.Mathlib.Numerals.{add-one}
-use borrow.Author.Tests.{not-true, not-false}
+use lib.Dec.{eqb}
+use borrow.Author.Tests.{eq-eqb, ne-eqb, not-true, not-false}
 use Rattle.house.specs.declared.Quote.{Quote}
 use Rattle.house.specs.File.{quoteAt, quotes}
 use Rattle.house.specs.Check.{quotePasses, allPass}
-use Rattle.house.specs.Repeats.{sameQuote, among, unrepeated, keptAfter, kept}
+use Rattle.house.specs.Repeats.{sameQuote, clash, agrees, allAgree, among, unrepeated, keptAfter, kept}
 use Rattle.house.proofs.Files.{quotes-cons, quotes-snoc}
+
+-- ---- a test made record by record: x is the test t of the first and what is left, y, and x is the whole, w
+
+and-stops : (t y : Bool) {x w : Bool} → x ≡ (t && y) → t ≡ false → x ≡ w → false ≡ w
+and-stops t y step h inv = sym (ap (λ (b : Bool). b && y) h) ∙ sym step ∙ inv
+
+and-goes : (t y : Bool) {x w : Bool} → x ≡ (t && y) → t ≡ true → x ≡ w → y ≡ w
+and-goes t y step h inv = sym (ap (λ (b : Bool). b && y) h) ∙ sym step ∙ inv
+
+or-stops : (t y : Bool) {x w : Bool} → x ≡ (t || y) → t ≡ true → x ≡ w → true ≡ w
+or-stops t y step h inv = sym (ap (λ (b : Bool). b || y) h) ∙ sym step ∙ inv
+
+or-goes : (t y : Bool) {x w : Bool} → x ≡ (t || y) → t ≡ false → x ≡ w → y ≡ w
+or-goes t y step h inv = sym (ap (λ (b : Bool). b || y) h) ∙ sym step ∙ inv
+
+-- what is asked behind two numbers, which are read first
+pub numbers-differ : (a b : ℕ) (t : Bool) → (a ≡ b → ⊥) → false ≡ (eqb a b && t)
+numbers-differ a b t h = sym (ap (λ (x : Bool). x && t) (ne-eqb a b h))
+
+pub numbers-equal : (a b : ℕ) {r t : Bool} → a ≡ b → r ≡ t → r ≡ (eqb a b && t)
+numbers-equal a b {r} {t} e h = h ∙ sym (ap (λ (x : Bool). x && t) (eq-eqb a b e))
 
 -- ---- check 10
 
@@ -21,19 +43,54 @@ pass-cons s at n h = rw (quotes-cons s at n h)
 
 module _ (q : Quote) (s : List ℕ) (at n : ℕ) (r w : Bool) (h : 0 < n) (p : q ≡ quoteAt s at) (t : r ≡ quotePasses q) (inv : allPass (quotes s at n) ≡ w) where
   pub bad : not r ≡ true → false ≡ w
-  bad y =
-      let here : quotePasses (quoteAt s at) ≡ false = sym (ap quotePasses p) ∙ sym t ∙ not-true r y in
-      sym (ap (λ (b : Bool). b && allPass (quotes s (at + 32) (n - 1))) here) ∙ sym (pass-cons s at n h) ∙ inv
+  bad y = and-stops _ _ (pass-cons s at n h) (sym (ap quotePasses p) ∙ sym t ∙ not-true r y) inv
 
   pub good : not r ≡ false → allPass (quotes s (at + 32) (n - 1)) ≡ w
-  good y =
-      let here : quotePasses (quoteAt s at) ≡ true = sym (ap quotePasses p) ∙ sym t ∙ not-false r y in
-      sym (ap (λ (b : Bool). b && allPass (quotes s (at + 32) (n - 1))) here) ∙ sym (pass-cons s at n h) ∙ inv
+  good y = and-goes _ _ (pass-cons s at n h) (sym (ap quotePasses p) ∙ sym t ∙ not-false r y) inv
 
 pub all-good : (s : List ℕ) (at n : ℕ) (w : Bool) → n ≤ 0 → allPass (quotes s at n) ≡ w → true ≡ w
 unfolding allPass quotes
 all-good s at zero w h inv = inv
 all-good s at (suc n) w h inv = absurd (omega arith)
+
+-- ---- a later record that clashes with q
+
+agrees-cons : (q : Quote) (s : List ℕ) (at n : ℕ) → 0 < n → agrees q (quotes s at n) ≡ not (clash q (quoteAt s at)) && agrees q (quotes s (at + 32) (n - 1))
+unfolding agrees
+agrees-cons q s at n h = rw (quotes-cons s at n h)
+
+module _ (q : Quote) (s : List ℕ) (at n : ℕ) (r w : Bool) (h : 0 < n) (t : r ≡ clash q (quoteAt s at)) (inv : agrees q (quotes s at n) ≡ w) where
+  pub clashes : r ≡ true → false ≡ w
+  clashes y = and-stops _ _ (agrees-cons q s at n h) (ap not (sym t ∙ y)) inv
+
+  pub passes-by : r ≡ false → agrees q (quotes s (at + 32) (n - 1)) ≡ w
+  passes-by y = and-goes _ _ (agrees-cons q s at n h) (ap not (sym t ∙ y)) inv
+
+pub none-clashes : (q : Quote) (s : List ℕ) (at n : ℕ) (w : Bool) → n ≤ 0 → agrees q (quotes s at n) ≡ w → true ≡ w
+unfolding agrees quotes
+none-clashes q s at zero w h inv = inv
+none-clashes q s at (suc n) w h inv = absurd (omega arith)
+
+-- ---- a record that clashes with a later one
+
+agree-cons : (s : List ℕ) (at n : ℕ) → 0 < n → allAgree (quotes s at n) ≡ agrees (quoteAt s at) (quotes s (at + 32) (n - 1)) && allAgree (quotes s (at + 32) (n - 1))
+unfolding allAgree
+agree-cons s at n h = rw (quotes-cons s at n h)
+
+module _ (q : Quote) (s : List ℕ) (at n : ℕ) (r w : Bool) (h : 0 < n) (p : q ≡ quoteAt s at) (t : r ≡ agrees q (quotes s (at + 32) (n - 1))) (inv : allAgree (quotes s at n) ≡ w) where
+  told : agrees (quoteAt s at) (quotes s (at + 32) (n - 1)) ≡ r
+  told = sym (ap (λ (x : Quote). agrees x (quotes s (at + 32) (n - 1))) p) ∙ sym t
+
+  pub some-clash : not r ≡ true → false ≡ w
+  some-clash y = and-stops _ _ (agree-cons s at n h) (told ∙ not-true r y) inv
+
+  pub no-clash : not r ≡ false → allAgree (quotes s (at + 32) (n - 1)) ≡ w
+  no-clash y = and-goes _ _ (agree-cons s at n h) (told ∙ not-false r y) inv
+
+pub all-agreed : (s : List ℕ) (at n : ℕ) (w : Bool) → n ≤ 0 → allAgree (quotes s at n) ≡ w → true ≡ w
+unfolding allAgree quotes
+all-agreed s at zero w h inv = inv
+all-agreed s at (suc n) w h inv = absurd (omega arith)
 
 -- ---- an earlier record that is the same
 
@@ -41,22 +98,17 @@ among-cons : (q : Quote) (s : List ℕ) (at n : ℕ) → 0 < n → among q (quot
 unfolding among
 among-cons q s at n h = rw (quotes-cons s at n h)
 
-module _ (q Q e : Quote) (s : List ℕ) (at n : ℕ) (L : List Quote) (r : Bool) (h : 0 < n) (p : e ≡ quoteAt s at) (t : r ≡ sameQuote e q) (inv : among q (quotes s at n) ≡ among q L) where
-  pub hit : q ≡ Q → r ≡ true → true ≡ among Q L
-  hit w y =
-      let here : sameQuote (quoteAt s at) q ≡ true = cc in
-      let there : among q L ≡ among Q L = cc in
-      sym (ap (λ (b : Bool). b || among q (quotes s (at + 32) (n - 1))) here) ∙ sym (among-cons q s at n h) ∙ inv ∙ there
+module _ (q : Quote) (s : List ℕ) (at n : ℕ) (r w : Bool) (h : 0 < n) (t : r ≡ sameQuote (quoteAt s at) q) (inv : among q (quotes s at n) ≡ w) where
+  pub hit : r ≡ true → true ≡ w
+  hit y = or-stops _ _ (among-cons q s at n h) (sym t ∙ y) inv
 
-  pub miss : r ≡ false → among q (quotes s (at + 32) (n - 1)) ≡ among q L
-  miss y =
-      let here : sameQuote (quoteAt s at) q ≡ false = cc in
-      sym (ap (λ (b : Bool). b || among q (quotes s (at + 32) (n - 1))) here) ∙ sym (among-cons q s at n h) ∙ inv
+  pub miss : r ≡ false → among q (quotes s (at + 32) (n - 1)) ≡ w
+  miss y = or-goes _ _ (among-cons q s at n h) (sym t ∙ y) inv
 
-pub nowhere : (q Q : Quote) (s : List ℕ) (at n : ℕ) (L : List Quote) → n ≤ 0 → among q (quotes s at n) ≡ among q L → q ≡ Q → false ≡ among Q L
+pub nowhere : (q : Quote) (s : List ℕ) (at n : ℕ) (w : Bool) → n ≤ 0 → among q (quotes s at n) ≡ w → false ≡ w
 unfolding among quotes
-nowhere q Q s at zero L h inv w = inv ∙ ap (λ (x : Quote). among x L) w
-nowhere q Q s at (suc n) L h inv w = absurd (omega arith)
+nowhere q s at zero w h inv = inv
+nowhere q s at (suc n) w h inv = absurd (omega arith)
 
 -- ---- what is kept of the records from the i-th on
 

@@ -17,14 +17,14 @@ use Rattle.house.specs.declared.House.the-variants.{File}
 use Rattle.house.specs.declared.Quote.{Quote}
 use Rattle.house.specs.File.{houseOf, quotes, recordsAt, recordsOf}
 use Rattle.house.specs.Check.{allPass}
-use Rattle.house.specs.Repeats.{kept}
+use Rattle.house.specs.Repeats.{allAgree, kept}
 use Rattle.house.specs.Taken.{intakeNumber, takenOf, keptFor, keptOf}
 use Rattle.house.proofs.Files.{records-long}
 
 module _ (s : List ℕ) where
   pub intake-is :
       (config : FitConfig) (room slots : ℕ)
-      → unless (leb (length s / 32 * 4) room && leb (length s / 32) slots) 12 (unless (sizesHold (length s / 32) config) 11 (unless (allPass (quotes s 0 (length s / 32))) 10 0)) ≡ intakeNumber config (recordsOf s) room slots
+      → unless (leb (length s / 32 * 4) room && leb (length s / 32) slots) 12 (unless (sizesHold (length s / 32) config) 11 (unless (allPass (quotes s 0 (length s / 32))) 10 (unless (allAgree (quotes s 0 (length s / 32))) 44 0))) ≡ intakeNumber config (recordsOf s) room slots
   unfolding intakeNumber
   intake-is config room slots = rw (records-long s)
 
@@ -56,18 +56,19 @@ pub kept-file : (s : List ℕ) (v n : ℕ) → File v n ≡ houseOf s → kept (
 unfolding keptOf
 kept-file s v n e = ap (keptFor s) e
 
--- where nothing refuses there is room, the sizes hold, and every record passes
+-- where nothing refuses there is room, the sizes hold, every record passes, and no number has two contents
 pub passed :
     (config : FitConfig) (qs : List Quote) (room slots : ℕ) → intakeNumber config qs room slots ≡ 0
-    → ((length qs * 4 ≤ room) × (length qs ≤ slots)) × (sizesHold (length qs) config ≡ true) × (allPass qs ≡ true)
+    → ((length qs * 4 ≤ room) × (length qs ≤ slots)) × (sizesHold (length qs) config ≡ true) × (allPass qs ≡ true) × (allAgree qs ≡ true)
 unfolding intakeNumber
 passed config qs room slots h =
     let n = length qs in
     let x = passed-one (leb (n * 4) room && leb n slots) 12 _ (λ e. omega arith) h in
     let y = passed-one (sizesHold n config) 11 _ (λ e. omega arith) (x .1) in
-    let z = passed-one (allPass qs) 10 0 (λ e. omega arith) (y .1) in
+    let z = passed-one (allPass qs) 10 _ (λ e. omega arith) (y .1) in
+    let u = passed-one (allAgree qs) 44 0 (λ e. omega arith) (z .1) in
     let p = both (leb (n * 4) room) (leb n slots) (x .0) in
-    ((leb-true (n * 4) room (p .0), leb-true n slots (p .1)), y .0, z .0)
+    ((leb-true (n * 4) room (p .0), leb-true n slots (p .1)), y .0, z .0, u .0)
 
 pub few : (n : ℕ) (config : FitConfig) → sizesHold n config ≡ true → n ≤ 256
 unfolding sizesHold

@@ -2,4 +2,5 @@ pub mod File
 pub mod Check
 pub mod Repeats
 pub mod Taken
+pub mod When
 pub mod Encode

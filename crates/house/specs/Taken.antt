@@ -10,18 +10,20 @@ use Rattle.records.specs.declared.FitConfig.{FitConfig}
 use Rattle.records.specs.Settings.{sizesHold}
 use Rattle.house.specs.File.{houseOf, recordsAt}
 use Rattle.house.specs.Check.{allPass}
-use Rattle.house.specs.Repeats.{kept}
+use Rattle.house.specs.Repeats.{allAgree, kept}
 use Rattle.house.specs.declared.House.{House}
 use Rattle.house.specs.declared.House.the-variants.{Malformed, File}
 use Rattle.house.specs.declared.Quote.{Quote}
 
--- before repeats are dropped: room for four residual numbers and one capped position for every record, then the sizes, then check 10 over all of them; 0 where nothing refuses
+-- before repeats are dropped: room for four residual numbers and one capped position for every record, then the sizes, then check 10 over all of them,
+-- then that no number has two contents; 0 where nothing refuses
 unfoldable pub intakeNumber : FitConfig → List Quote → ℕ → ℕ → ℕ
 intakeNumber config qs room slots =
     unless (leb (length qs * 4) room && leb (length qs) slots) 12
     (unless (sizesHold (length qs) config) 11
     (unless (allPass qs) 10
-    0))
+    (unless (allAgree qs) 44
+    0)))
 
 -- what three columns with room for a, b and c values take: the first of each record, or nothing where one has not room for all of them
 unfoldable pub takenOf : List Quote → ℕ → ℕ → ℕ → List Quote

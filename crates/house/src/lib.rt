@@ -3,13 +3,13 @@ use records::FitConfig;
 ghost use mathlib.Core.Path.{_≡_};
 ghost use mathlib.Core.Bool.{_&&_};
 ghost use mathlib.Core.List.{map};
-ghost use Prim.Native.Nat.{_*_, _/_, _≤_, _<_};
+ghost use Prim.Native.Nat.{_+_, _*_, _/_, _≤_, _<_};
 ghost use lib.Dec.{leb};
 ghost use lib.ListN.{length};
 ghost use Rattle.laws.specs.Room.{atFront};
 ghost use Rattle.house.specs.File.{houseOf, f64At, tauOf, settingsAt, configOf, quoteAt, quotes, recordsOf};
 ghost use Rattle.house.specs.Check.{kOf, wOf, weightOf, quotePasses, allPass};
-ghost use Rattle.house.specs.Repeats.{sameQuote, among, kept};
+ghost use Rattle.house.specs.Repeats.{sameContent, sameQuote, clash, agrees, allAgree, among, kept};
 ghost use Rattle.house.specs.Taken.{intakeNumber, takenOf};
 
 // How many settings records (0 or 1) and how many observations a well-formed file has.
@@ -140,7 +140,59 @@ fn room_holds(s: &[u8], room: usize, slots: usize) -> bool
     (n * 4 <= room) & (n <= slots)
 }
 
-// 12, 11, 10 or 0: what refuses records, 32 bytes each, before repeats are dropped.
+fn same_content(a: Quote, b: Quote) -> bool
+    ensures { λ r. ⌜ r ≡ sameContent a b ⌝ }
+{
+    (a.k == b.k) & (a.w == b.w) & (a.weight == b.weight)
+}
+
+// Whether the record at a place has the number of q and another content. Its number is read first, since most differ in it.
+fn clashes_at(s: &[u8], at: usize, q: Quote) -> bool
+    requires { ⌜ at ≤ length (now s) ⌝ }
+    ensures { λ r. ⌜ r ≡ clash q (quoteAt (now (s .entry)) at) ⌝ }
+{
+    if q.number != bits::u64_at(s, at) {
+        return false;
+    }
+    !same_content(q, quote_at(s, at))
+}
+
+// Whether q clashes with none of n records, the first at a place.
+fn agrees(s: &[u8], from: usize, n: usize, q: Quote) -> bool
+    requires { ⌜ from + 32 * n ≤ length (now s) ⌝ }
+    ensures { λ r. ⌜ r ≡ agrees q (quotes (now (s .entry)) from n) ⌝ }
+{
+    let mut at = from;
+    let mut left = n;
+    while 0 < left {
+        if clashes_at(s, at, q) {
+            return false;
+        }
+        at += 32;
+        left -= 1;
+    }
+    true
+}
+
+// Whether each of n records agrees with all after it.
+fn all_agree(s: &[u8], n: usize) -> bool
+    requires { ⌜ 32 * n ≤ length (now s) ⌝ }
+    ensures { λ r. ⌜ r ≡ allAgree (quotes (now (s .entry)) 0 n) ⌝ }
+{
+    let mut at = 0;
+    let mut left = n;
+    while 0 < left {
+        let q = quote_at(s, at);
+        at += 32;
+        left -= 1;
+        if !agrees(s, at, left, q) {
+            return false;
+        }
+    }
+    true
+}
+
+// 12, 11, 10, 44 or 0: what refuses records, 32 bytes each, before repeats are dropped.
 pub fn intake_number(s: &[u8], config: FitConfig, room: usize, slots: usize) -> u32
     ensures { λ r. ⌜ r ≡ intakeNumber config (recordsOf (now (s .entry))) room slots ⌝ }
 {
@@ -154,21 +206,30 @@ pub fn intake_number(s: &[u8], config: FitConfig, room: usize, slots: usize) -> 
         return 11;
     }
     let observations = all_pass(s, n);
+    let agree = all_agree(s, n);
     if !observations {
         return 10;
+    }
+    if !agree {
+        return 44;
     }
     0
 }
 
 // ---- repeats
 
-fn same(a: Quote, b: Quote) -> bool
-    ensures { λ r. ⌜ r ≡ sameQuote a b ⌝ }
+// Whether the record at a place has the number and the content of q. Its number is read first, since most differ in it.
+fn same_at(s: &[u8], at: usize, q: Quote) -> bool
+    requires { ⌜ at ≤ length (now s) ⌝ }
+    ensures { λ r. ⌜ r ≡ sameQuote (quoteAt (now (s .entry)) at) q ⌝ }
 {
-    (a.k == b.k) & (a.w == b.w) & (a.weight == b.weight)
+    if bits::u64_at(s, at) != q.number {
+        return false;
+    }
+    same_content(quote_at(s, at), q)
 }
 
-// Whether one of the first i records has the same content as record i.
+// Whether one of the first i records is the same as record i.
 fn repeated(s: &[u8], i: usize) -> bool
     requires { ⌜ 32 * i ≤ length (now s) ⌝ }
     ensures { λ r. ⌜ r ≡ among (quoteAt (now (s .entry)) (32 * i)) (quotes (now (s .entry)) 0 i) ⌝ }
@@ -177,7 +238,7 @@ fn repeated(s: &[u8], i: usize) -> bool
     let mut at = 0;
     let mut left = i;
     while 0 < left {
-        if same(quote_at(s, at), q) {
+        if same_at(s, at, q) {
             return true;
         }
         at += 32;

@@ -2,4 +2,4 @@ pub mod Saying
 pub mod ReadAndKept
 pub mod RepeatsDoNotShow
 pub mod OneOfTheForms
-pub mod PaperExample
+pub mod Examples

@@ -1,4 +1,4 @@
--- Every answer has one of the forms of the print rules: a malformed file's one line; 11 or 10 with as many kept as read; 1, 2, 4, 5; 3 with its two counts;
+-- Every answer has one of the forms of the print rules: a malformed file's one line; 11, 10 or 44 with as many kept as read; 1, 2, 4, 5; 3 with its two counts;
 -- 6, 7, 8 behind `search`; 9 behind `search` with its two floats; or an accepted fit.
 use Prim.Native.Nat.{ℕ, zero, suc, _+_, _*_, _≤_, _<_}
 use mathlib.Core.Path.{_≡_, refl, sym, subst, _∙_}
@@ -31,7 +31,7 @@ use Rattle.house.specs.declared.House.the-variants.{Malformed, File}
 use Rattle.house.specs.declared.Quote.{Quote}
 use Rattle.house.specs.File.{houseOf, tauOf, configOf, recordsAt}
 use Rattle.house.specs.Check.{kOf, wOf, weightOf, quotePasses, allPass}
-use Rattle.house.specs.Repeats.{kept as firsts}
+use Rattle.house.specs.Repeats.{allAgree, kept as firsts}
 use Rattle.house.specs.Taken.{intakeNumber, keptFor, keptOf}
 use Rattle.house.proofs.Files.{file-is, quotes-length}
 use Rattle.house.proofs.Taking.{passed}
@@ -44,7 +44,7 @@ use Rattle.run.specs.Answer.{restText, behindRead, answerOf}
 
 pub data Form : List ℕ → Type 0 where
   malformed : Form (refusedLine 43 0 0)
-  before-dropping : (number read : ℕ) → (eqb number 11 || eqb number 10) ≡ true → Form (readLine read read ++ refusedLine number 0 0)
+  before-dropping : (number read : ℕ) → (eqb number 11 || eqb number 10 || eqb number 44) ≡ true → Form (readLine read read ++ refusedLine number 0 0)
   entry : (number read kept : ℕ) → (eqb number 1 || eqb number 2 || eqb number 4 || eqb number 5) ≡ true → Form (readLine read kept ++ refusedLine number 0 0)
   too-few : (read kept required : ℕ) → Form (readLine read kept ++ refusedLine 3 kept required)
   searched : (number read kept : ℕ) (counts : Counts) → (eqb number 6 || eqb number 7 || eqb number 8) ≡ true → Form (readLine read kept ++ (searchLine counts ++ refusedLine number 0 0))
@@ -216,11 +216,15 @@ module _ (tau : Float) (config : FitConfig) (qs : List Quote) (l : length qs ≤
   unfolding restText refusalText refusedOf refusedWith
   refused-11 h = before-dropping 11 (length qs) refl
 
+  refused-44 : Refused 44
+  unfolding restText refusalText refusedOf refusedWith
+  refused-44 h = before-dropping 44 (length qs) refl
+
   refused : Refused (intakeNumber config qs 1024 256)
   unfolding intakeNumber
   refused =
       rw (le-leb (length qs * 4) 1024 (omega arith), le-leb (length qs) 256 l)
-      (cond-ind Refused (sizesHold (length qs) config) (cond-ind Refused (allPass qs) refused-0 refused-10) refused-11)
+      (cond-ind Refused (sizesHold (length qs) config) (cond-ind Refused (allPass qs) (cond-ind Refused (allAgree qs) refused-0 refused-44) refused-10) refused-11)
 
   quotes-form : Printed (quotesOutcome tau config qs 1024 256)
   unfolding quotesOutcome restText

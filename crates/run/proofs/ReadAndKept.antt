@@ -13,7 +13,7 @@ use Rattle.records.specs.Answer.{refusedWith}
 use Rattle.house.specs.declared.House.the-variants.{Malformed, File}
 use Rattle.house.specs.File.{houseOf, tauOf, configOf, recordsAt}
 use Rattle.house.specs.Check.{allPass}
-use Rattle.house.specs.Repeats.{kept}
+use Rattle.house.specs.Repeats.{allAgree, kept}
 use Rattle.house.specs.Taken.{intakeNumber, keptOf}
 use Rattle.house.proofs.Files.{file-is, quotes-length}
 use Rattle.house.proofs.Once.{kept-short}
@@ -69,9 +69,14 @@ module _ (s : List ℕ) (v n : ℕ) (e : File v n ≡ houseOf s) where
     unfolding intakeNumber
     number-10 k = rw (count, le-leb (n * 4) 1024 (omega (arith, within)), le-leb n 256 within, sizes, k) refl
 
-    number-0 : allPass (recordsAt s v n) ≡ true → intakeNumber (configOf s v) (recordsAt s v n) 1024 256 ≡ 0
-    unfolding intakeNumber
-    number-0 k = rw (count, le-leb (n * 4) 1024 (omega (arith, within)), le-leb n 256 within, sizes, k) refl
+    module _ (pass : allPass (recordsAt s v n) ≡ true) where
+      number-44 : allAgree (recordsAt s v n) ≡ false → intakeNumber (configOf s v) (recordsAt s v n) 1024 256 ≡ 44
+      unfolding intakeNumber
+      number-44 k = rw (count, le-leb (n * 4) 1024 (omega (arith, within)), le-leb n 256 within, sizes, pass, k) refl
+
+      number-0 : allAgree (recordsAt s v n) ≡ true → intakeNumber (configOf s v) (recordsAt s v n) 1024 256 ≡ 0
+      unfolding intakeNumber
+      number-0 k = rw (count, le-leb (n * 4) 1024 (omega (arith, within)), le-leb n 256 within, sizes, pass, k) refl
 
   number-11 : sizesHold n (configOf s v) ≡ false → intakeNumber (configOf s v) (recordsAt s v n) 1024 256 ≡ 11
   unfolding intakeNumber
@@ -87,12 +92,17 @@ module _ (s : List ℕ) (v n : ℕ) (e : File v n ≡ houseOf s) where
   unfolding restText refusalText refusedOf refusedWith
   bad-observation h k = sym (answer-from s (refusedAt 10 n) (early 10 (number-10 h k) (λ z. omega arith)))
 
-  -- neither: the first line has the number of records that are kept once repeats are dropped
+  -- neither, and one number has two contents: the whole answer is `read n kept n` and `refused 44 0 0`
+  pub two-contents : sizesHold n (configOf s v) ≡ true → allPass (recordsAt s v n) ≡ true → allAgree (recordsAt s v n) ≡ false → answerOf s ≡ readLine n n ++ refusedLine 44 0 0
+  unfolding restText refusalText refusedOf refusedWith
+  two-contents h k a = sym (answer-from s (refusedAt 44 n) (early 44 (number-44 h k a) (λ z. omega arith)))
+
+  -- none of these: the first line has the number of records that are kept once repeats are dropped
   pub kept-after-dropping :
-      sizesHold n (configOf s v) ≡ true → allPass (recordsAt s v n) ≡ true
+      sizesHold n (configOf s v) ≡ true → allPass (recordsAt s v n) ≡ true → allAgree (recordsAt s v n) ≡ true
       → (rest : List ℕ) × (answerOf s ≡ readLine n (length (kept (recordsAt s v n))) ++ rest)
-  kept-after-dropping h k =
-      let o = fitted-is (tauOf s v) (configOf s v) (recordsAt s v n) 1024 256 0 (sym (number-0 h k)) refl (fitFor (tauOf s v) (configOf s v) (kept (recordsAt s v n)) 1024 256) refl ∙ file-outcome in
+  kept-after-dropping h k a =
+      let o = fitted-is (tauOf s v) (configOf s v) (recordsAt s v n) 1024 256 0 (sym (number-0 h k a)) refl (fitFor (tauOf s v) (configOf s v) (kept (recordsAt s v n)) 1024 256) refl ∙ file-outcome in
       (behindRead s, answer-is ∙ ap (λ (m : ℕ). readLine n m ++ behindRead s) (sym (ap (λ (o : Outcome). o .kept) o)))
 
   -- in any case the first line is `read n kept m`, where m is at most n

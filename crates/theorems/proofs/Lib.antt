@@ -15,3 +15,6 @@ pub mod RefusalKeepsBuffers
 pub mod RangeNeverBad
 pub mod SearchedAsDefined
 pub mod FitCounts
+-- Quotes: one number with two contents, and what is kept by the number.
+pub mod TwoContents
+pub mod KeptByNumber
