@@ -3,8 +3,8 @@
 use crate::house;
 use crate::random::Random;
 
-/// `one` with a few things done to it: bits flipped, records cut, swapped and repeated, counts replaced, special floats
-/// written anywhere, a piece of `other` joined on.
+/// `one` with a few things done to it: bits flipped, records cut, swapped and repeated, under their number or another, a number given twice, counts replaced,
+/// special floats written anywhere, a piece of `other` joined on.
 pub fn damaged(r: &mut Random, one: &[u8], other: &[u8]) -> Vec<u8> {
     let mut f = one.to_vec();
     for _ in 0..r.one_of(&[1, 1, 1, 2, 2, 3, 5]) {
@@ -30,7 +30,7 @@ fn once(r: &mut Random, f: &mut Vec<u8>, other: &[u8]) {
         }
     };
     let at = |r: &mut Random| start + RECORD * r.below(count.max(1));
-    match r.below(12) {
+    match r.below(14) {
         // Bits.
         0 | 1 => {
             for _ in 0..r.one_of(&[1, 1, 2, 8, 64]) {
@@ -119,6 +119,25 @@ fn once(r: &mut Random, f: &mut Vec<u8>, other: &[u8]) {
                 f.truncate(start + RECORD * count);
                 f.extend_from_slice(&other[from..]);
                 say(f, count + more);
+            }
+        }
+        // A record's number on another: a clash, also where k, or k and w, come with it; where all do, a retry.
+        11 => {
+            if count > 1 {
+                let (i, j) = (at(r), at(r));
+                let len = r.one_of(&[8, 8, 16, 24, RECORD]);
+                f.copy_within(i..i + len, j);
+            }
+        }
+        // A record again under another number: a second quote.
+        12 => {
+            if count > 0 {
+                let (i, any) = (at(r), r.word());
+                let mut record = f[i..i + RECORD].to_vec();
+                record[..8].copy_from_slice(&r.one_of(&[0, u64::MAX, any, any]).to_le_bytes());
+                let to = start + RECORD * r.below(count + 1);
+                f.splice(to..to, record);
+                say(f, count + 1);
             }
         }
         // The settings left out (seldom: the defaults search long), or a whole number in them replaced.

@@ -1,4 +1,4 @@
-//! The house file and the printed answer, written from document 01 ("House file and print"), and the Rust's fit in between.
+//! The house file and the printed answer, written from document 01 ("House file and print") with the repeats of document 02 (M-101), and the Rust's fit in between.
 
 use crate::counts;
 use std::fmt::Write;
@@ -176,7 +176,7 @@ pub struct Fit {
     pub points: Vec<[f64; 4]>,
 }
 
-/// What the fit answers: accepted, or document 01's number with its two values.
+/// What the fit answers: accepted, or the documents' number with its two values.
 #[derive(Debug, Clone)]
 pub enum Verdict {
     Accepted(Box<Fit>),
@@ -279,7 +279,7 @@ fit_slice_of!(fit_started, started);
 /// The Rust's whole answer to a file.
 #[derive(Debug, Clone)]
 pub struct Answer {
-    /// Document 01's number, 0 where accepted.
+    /// The documents' number, 0 where accepted.
     pub number: u32,
     /// As it is printed.
     pub text: String,
@@ -306,16 +306,30 @@ fn good(r: &Record) -> bool {
     r.k.is_finite() && r.w.is_finite() && r.w >= 0.0 && r.weight.is_finite() && r.weight > 0.0
 }
 
-/// The records without those whose k, w and weight bits equal an earlier one's.
-pub fn without_repeats(records: &[Record]) -> Vec<Record> {
-    let bits = |r: &Record| [r.k, r.w, r.weight].map(f64::to_bits);
+/// What one quote number stands for: three bit patterns, so that +0 and -0 are two contents.
+fn content(r: &Record) -> [u64; 3] {
+    [r.k, r.w, r.weight].map(f64::to_bits)
+}
+
+/// Check 44: one number stands with two contents, wherever in the file.
+fn clash(records: &[Record]) -> bool {
+    records.iter().any(|a| records.iter().any(|b| a.number == b.number && content(a) != content(b)))
+}
+
+/// The records without those of which an earlier one has the number and the content.
+fn without_repeats(records: &[Record]) -> Vec<Record> {
     let mut kept: Vec<Record> = Vec::new();
     for r in records {
-        if !kept.iter().any(|q| bits(q) == bits(r)) {
+        if !kept.iter().any(|q| q.number == r.number && content(q) == content(r)) {
             kept.push(*r);
         }
     }
     kept
+}
+
+/// The records that are fitted, or nothing where the quotes clash (44).
+pub fn kept(records: &[Record]) -> Option<Vec<Record>> {
+    (!clash(records)).then(|| without_repeats(records))
 }
 
 fn hex(x: f64) -> String {
@@ -333,22 +347,22 @@ fn line(out: &mut String, name: &str, words: impl IntoIterator<Item = String>) {
 
 /// The answer to a house file as document 01 prints it. Panics where the two copies of the Rust differ.
 pub fn answer(file: &[u8]) -> Answer {
-    answered(file, without_repeats)
+    answered(file, kept)
 }
 
-/// The same with every repeat weighed as a quote of its own: what the Rust makes of a file that nobody cleaned.
+/// The same with every record weighed as a quote of its own: what the Rust, which has no quote numbers and so no 44, makes of a file that nobody cleaned.
 pub fn answer_with_repeats(file: &[u8]) -> Answer {
-    answered(file, <[Record]>::to_vec)
+    answered(file, |records| Some(records.to_vec()))
 }
 
-fn answered(file: &[u8], kept: impl Fn(&[Record]) -> Vec<Record>) -> Answer {
+fn answered(file: &[u8], kept: impl Fn(&[Record]) -> Option<Vec<Record>>) -> Answer {
     match read(file).map(|house| told(house, kept)) {
         None => Answer { number: 43, text: "refused 43 0 0\n".to_string(), told: None },
         Some(told) => Answer { number: told.verdict.number(), text: printed(&told), told: Some(told) },
     }
 }
 
-fn told(house: House, kept: impl Fn(&[Record]) -> Vec<Record>) -> Told {
+fn told(house: House, kept: impl Fn(&[Record]) -> Option<Vec<Record>>) -> Told {
     let early = |number: u32, house: House| Told { kept: house.records.len(), house, verdict: Verdict::Refused(number), counts: [0; 5] };
     if house.settings.as_ref().is_some_and(over_a_size) {
         return early(11, house);
@@ -356,7 +370,9 @@ fn told(house: House, kept: impl Fn(&[Record]) -> Vec<Record>) -> Told {
     if !house.records.iter().all(good) {
         return early(10, house);
     }
-    let kept = kept(&house.records);
+    let Some(kept) = kept(&house.records) else {
+        return early(44, house);
+    };
     let plain = fit_plain(house.tau, &kept, house.settings.as_ref());
     counts::take();
     let counted = fit_counted(house.tau, &kept, house.settings.as_ref());

@@ -4,7 +4,7 @@
 pub mod elementary;
 /// The five counts of a search.
 pub mod counts;
-/// The house file and the printed answer, written from document 01.
+/// The house file and the printed answer, written from documents 01 and 02.
 pub mod house;
 /// When two printed answers are the same.
 pub mod rule;

@@ -13,7 +13,8 @@ pub const CLASSES: &[(&str, usize, Make)] = &[
     ("exact", 6, exact),
     ("noise", 6, noise),
     ("weights", 6, weights),
-    ("repeats", 5, repeats),
+    ("retries", 4, retries),
+    ("second", 4, second),
     ("wings", 5, wings),
     ("flat", 4, flat),
     ("bounds", 8, bounds),
@@ -34,6 +35,7 @@ pub const CLASSES: &[(&str, usize, Make)] = &[
     ("refusal10", 2, refusal10),
     ("refusal11", 1, refusal11),
     ("refusal43", 2, refusal43),
+    ("refusal44", 4, refusal44),
 ];
 
 /// File `i` of a seed: its class and its bytes.
@@ -100,7 +102,7 @@ fn small(r: &mut Random) -> Settings {
     }
 }
 
-/// `count` records of the smile, each w times 1 + noise.
+/// `count` records of the smile, each w times 1 + noise, numbered from 1 on.
 fn quotes(r: &mut Random, t: &Truth, count: usize, noise: f64) -> Vec<Record> {
     let mut out = Vec::new();
     for i in 0..count {
@@ -109,6 +111,30 @@ fn quotes(r: &mut Random, t: &Truth, count: usize, noise: f64) -> Vec<Record> {
         out.push(Record { number: i as u64 + 1, k, w, weight: r.between(1.0, 5.0) });
     }
     out
+}
+
+/// A number of its own for each of at most 256 records: from 0 and from the largest on, anywhere, or alike in all but a few bits.
+fn number(r: &mut Random, records: &mut [Record]) {
+    let (way, from) = (r.below(6), r.word());
+    for (i, q) in (0_u64..).zip(records) {
+        q.number = match way {
+            0 => i + 1,
+            1 => from.wrapping_add(i),
+            2 if i % 2 == 0 => i / 2,
+            2 => u64::MAX - i / 2,
+            3 => i << 32,
+            4 => i << 56,
+            _ => from ^ (i << 31),
+        };
+    }
+}
+
+/// Copies of `times` records, each put anywhere: retries of numbered records, second quotes where each is numbered afterwards.
+fn again(r: &mut Random, records: &mut Vec<Record>, times: usize) {
+    for _ in 0..times {
+        let q = records[r.below(records.len())];
+        records.insert(r.below(records.len() + 1), q);
+    }
 }
 
 fn house(settings: Option<Settings>, t: &Truth, records: Vec<Record>) -> House {
@@ -127,11 +153,13 @@ fn realistic(r: &mut Random) -> House {
     house(Some(s), &t, records)
 }
 
-/// A realistic slice, to be damaged: one pass over the smallest grid, now and then a few.
+/// A realistic slice, to be damaged: one pass over the smallest grid, now and then a few. Its numbers are its own, so that records of two such files can stand in one.
 pub fn base(r: &mut Random) -> House {
     let t = Truth::new(r);
     let n = r.from_to(5, 9);
-    let records = quotes(r, &t, n, 0.01);
+    let mut records = quotes(r, &t, n, 0.01);
+    let from = r.word();
+    records.iter_mut().for_each(|q| q.number = q.number.wrapping_add(from));
     let more = r.once_in(16);
     let s = Settings {
         grid: if more { r.from_to(5, 6) as u64 } else { 5 },
@@ -186,12 +214,22 @@ fn weights(r: &mut Random) -> Vec<u8> {
     write(&h)
 }
 
-fn repeats(r: &mut Random) -> Vec<u8> {
+/// Records sent again with their number: the first of each counts.
+fn retries(r: &mut Random) -> Vec<u8> {
     let mut h = realistic(r);
-    for _ in 0..r.from_to(1, 20) {
-        let mut q = h.records[r.below(h.records.len())];
-        q.number = r.word();
-        match r.below(8) {
+    number(r, &mut h.records);
+    let times = r.from_to(1, 20);
+    again(r, &mut h.records, times);
+    write(&h)
+}
+
+/// What a second dealer quotes too, now and then a bit or a zero's sign apart, each under a number of its own, beside retries: all but those count.
+fn second(r: &mut Random) -> Vec<u8> {
+    let mut h = realistic(r);
+    let (seconds, sent) = (r.from_to(1, 12), r.below(8));
+    again(r, &mut h.records, seconds);
+    for q in &mut h.records {
+        match r.below(40) {
             0 => q.k = r.near(q.k, 1),
             1 => q.w = r.near(q.w, 1),
             2 => q.weight = r.near(q.weight, 1),
@@ -199,8 +237,9 @@ fn repeats(r: &mut Random) -> Vec<u8> {
             4 => q.w = r.one_of(&[0.0, -0.0]),
             _ => {}
         }
-        h.records.insert(r.below(h.records.len() + 1), q);
     }
+    number(r, &mut h.records);
+    again(r, &mut h.records, sent);
     write(&h)
 }
 
@@ -424,10 +463,10 @@ fn refusal03(r: &mut Random) -> Vec<u8> {
                 s.min_observations = r.one_of(&[u64::MAX, 1 << 63, 1_000_000, 31, 257]);
             }
         }
+        // Two quotes, again and again.
         _ => {
             let n = r.from_to(5, 20);
-            let q = h.records[0];
-            h.records = (0..n).map(|i| Record { number: i as u64, k: if r.once_in(6) { q.k + 1.0 } else { q.k }, ..q }).collect();
+            h.records = (0..n).map(|_| h.records[usize::from(r.once_in(6))]).collect();
         }
     }
     write(&h)
@@ -581,4 +620,54 @@ fn refusal43(r: &mut Random) -> Vec<u8> {
         }
     }
     f
+}
+
+/// x with one bit of its fraction changed: as finite as it was, and of the same sign.
+fn bit_changed(r: &mut Random, x: f64) -> f64 {
+    f64::from_bits(x.to_bits() ^ (1 << r.below(52)))
+}
+
+/// A record under the number of another, beside it or far away: one bit pattern differs, or all may.
+fn clash(r: &mut Random, records: &mut Vec<Record>) {
+    let i = r.below(records.len());
+    let mut q = records[i];
+    let zero = r.one_of(&[0.0, -0.0]);
+    match r.below(7) {
+        0 => q.k = bit_changed(r, q.k),
+        1 => q.w = bit_changed(r, q.w),
+        2 => q.weight = bit_changed(r, q.weight),
+        3 => (records[i].k, q.k) = (zero, -zero),
+        4 => (records[i].w, q.w) = (zero, -zero),
+        5 => q.weight *= 2.0,
+        _ => q = Record { number: q.number, ..records[r.below(records.len())] },
+    }
+    let at = r.below(records.len() + 1);
+    records.insert(r.one_of(&[i, i + 1, 0, records.len(), at]), q);
+}
+
+/// Clashes beside retries and second quotes; now and then beside what comes before 44 (10 and 11) or after it (1, 2 and 3).
+fn refusal44(r: &mut Random) -> Vec<u8> {
+    let t = Truth::new(r);
+    let n = r.one_of(&[1, 2, 5, 9, 9, 20, 200]);
+    let mut records = quotes(r, &t, n, 0.01);
+    let (seconds, sent) = (r.below(6), r.below(6));
+    again(r, &mut records, seconds);
+    number(r, &mut records);
+    again(r, &mut records, sent);
+    for _ in 0..r.one_of(&[1, 1, 1, 2, 5]) {
+        clash(r, &mut records);
+    }
+    let (mut s, mut tau) = (small(r), t.tau);
+    match r.below(12) {
+        0 => s.grid = r.below(5) as u64,
+        1 => tau = r.one_of(&[0.0, -1.0, f64::NAN]),
+        2 => s.min_observations = u64::MAX,
+        3 => {
+            let at = r.below(records.len());
+            records[at].w = r.one_of(&[f64::NAN, f64::INFINITY, -1.0]);
+        }
+        4 => s.max_recentres = r.one_of(&[1001, u64::MAX]),
+        _ => {}
+    }
+    write(&House { settings: Some(s), tau, records })
 }

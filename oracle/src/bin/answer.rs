@@ -2,7 +2,7 @@
 
 use oracle::{house, work};
 
-const HOW: &str = "oracle/answer [--platform] FILE..      prints the Rust's answer to each file; --keep-repeats: no repeat is dropped
+const HOW: &str = "oracle/answer [--platform] FILE..      prints the Rust's answer to each file; --keep-repeats: every record is a quote of its own
 oracle/answers [--platform] FOLDER..   writes NAME.answer beside each NAME.house";
 
 fn main() {

@@ -104,7 +104,7 @@ fn main() {
     for i in 0..count / 200 {
         let (class, bytes) = made::file(11, i, None);
         let Some(h) = house::read(&bytes).filter(|_| class != "default" && class != "damaged") else { continue };
-        let kept = house::without_repeats(&h.records);
+        let Some(kept) = house::kept(&h.records) else { continue };
         if h.settings.is_some_and(|s| s.grid > 9 || s.refinements > 1000 || s.max_recentres > 1000) {
             continue;
         }
