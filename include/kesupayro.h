@@ -31,7 +31,7 @@ extern "C" {
 
 /* This header's number. It changes with every layout or meaning that a caller could notice, and docs/ABI.md says what changed with each.
  * A program that was compiled with one header and linked with another library can tell: port_abi() is the library's number. */
-#define PORT_ABI 1
+#define PORT_ABI 2
 uint32_t port_abi(void);
 
 /* What `number` says. */
@@ -71,12 +71,13 @@ enum {
     PORT_REFUSED_K_AXIS = 40,          /* the k axis is empty, or not of finite, rising numbers */
     PORT_REFUSED_TAU_AXIS = 41,        /* the tau axis is empty, or not of finite, rising numbers above 0 */
     PORT_REFUSED_TOLERANCE = 42,       /* a tolerance not finite, or below 0 */
-    PORT_REFUSED_MALFORMED = 43        /* the bytes are not a house file */
+    PORT_REFUSED_MALFORMED = 43,       /* the bytes are not a house file */
+    PORT_REFUSED_TWO_CONTENTS = 44     /* one quote number with two contents: k, w or weight differ in a bit */
 };
 
 /* One quote as it came in. */
 typedef struct {
-    uint64_t number;   /* the dealer's number of the quote */
+    uint64_t number;   /* the quote's own, which it keeps when it is sent again; any 64 bits */
     double k;          /* ln(strike / forward) */
     double w;          /* total variance: vol x vol x tau */
     double weight;     /* in the least squares */
@@ -127,7 +128,7 @@ typedef struct {
 
 /* The answer to quotes as they came in: how many were read, how many were kept once repeats were dropped, and the fit of those. */
 typedef struct {
-    uint64_t read, kept;          /* kept is read where the quotes are refused before repeats are dropped: 12, 11, 10 */
+    uint64_t read, kept;          /* kept is read where the quotes are refused before repeats are dropped: 12, 11, 10, 44 */
     PortFitAnswer fit;
 } PortQuotesAnswer;
 
@@ -340,11 +341,12 @@ static inline PortFitConfig port_default_config(void)
     return c;
 }
 
-/* THE CALL TO START WITH: fits quotes as they came in. Repeats are dropped (a quote whose k, w and weight equal an earlier one's bit for bit), as the program drops
- * them from a file; then the rest is fitted. An accepted fit writes four numbers for each quote kept to `residuals` (k, w, fitted w, quoted minus fitted
- * volatility), in order, and the positions among those kept whose weight was capped, rising, to `capped`. It wants room for 4 x count and count, whatever is
- * kept. With the default settings it tries at most 2,624,832 faces, which is a second or so; the largest settings allow 4,758 times as many, so look
- * at the settings that you pass on from others. */
+/* THE CALL TO START WITH: fits quotes as they came in. Repeats are dropped, as the program drops them from a file; then the rest is fitted. A repeat has an earlier
+ * quote's number and its k, w and weight, bit for bit (+0 and -0 differ). The number tells a retry from a second quote: what two dealers quote alike comes under
+ * two numbers, and both count. SO EACH QUOTE NEEDS A NUMBER OF ITS OWN: one number with two contents is refused with 44, after 12, 11 and 10, before a repeat is dropped.
+ * An accepted fit writes four numbers for each quote kept to `residuals` (k, w, fitted w, quoted minus fitted volatility), in order, and the positions among
+ * those kept whose weight was capped, rising, to `capped`. It wants room for 4 x count and count, whatever is kept. With the default settings it tries at most
+ * 2,624,832 faces, which is a second or so; the largest settings allow 4,758 times as many, so look at the settings that you pass on from others. */
 static inline PortQuotesAnswer port_fit_quotes(double tau, PortFitConfig config, const PortQuote *quotes, size_t count,
                                                double *residuals, size_t residuals_count, uint64_t *capped, size_t capped_count)
 {
@@ -362,7 +364,7 @@ static inline PortQuotesAnswer port_fit_quotes(double tau, PortFitConfig config,
     return a;
 }
 
-/* Fits n quotes given as three columns, and writes what port_fit_quotes writes. It fits what it is given: NO REPEAT IS DROPPED HERE. */
+/* Fits n quotes given as three columns, and writes what port_fit_quotes writes. It fits what it is given: columns have no numbers, so NO REPEAT IS DROPPED HERE. */
 static inline PortFitAnswer port_fit_slice(double tau, PortFitConfig config, const double *k, size_t k_count, const double *w, size_t w_count,
                                            const double *weight, size_t weight_count, double *residuals, size_t residuals_count,
                                            uint64_t *capped, size_t capped_count)
@@ -377,8 +379,8 @@ static inline PortFitAnswer port_fit_slice(double tau, PortFitConfig config, con
     return a;
 }
 
-/* Answers a house file as the program prints it: repeats are dropped, then the rest is fitted. Returns the length of the whole answer, and writes it
- * where the room is at least that; else nothing is written. PORT_MOST_ANSWER bytes are room for every answer (proved). */
+/* Answers a house file as the program prints it: repeats are dropped and clashes refused (44) as by port_fit_quotes, then the rest is fitted. Returns the length of
+ * the whole answer, and writes it where the room is at least that; else nothing is written. PORT_MOST_ANSWER bytes are room for every answer (proved). */
 #define PORT_MOST_ANSWER 32768
 uint64_t port_run(const uint8_t *file, uint64_t file_count, uint8_t *out, uint64_t out_count);
 

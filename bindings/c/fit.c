@@ -181,6 +181,15 @@ static int sent_refused(PortQuotesAnswer a, uint32_t number, size_t n)
     return a.read == n && a.kept == n && refused(a.fit, number);
 }
 
+/* Two fits with one answer, bit for bit. */
+static int same_fit(PortFitAnswer a, PortFitAnswer b)
+{
+    int found = a.number == b.number && memcmp(&a.slice, &b.slice, sizeof a.slice) == 0 && memcmp(&a.counts, &b.counts, sizeof a.counts) == 0;
+    int sums = a.objective == b.objective && a.objective_params == b.objective_params && a.rmse_vol == b.rmse_vol;
+    int margins = a.lee_margin == b.lee_margin && a.a_margin == b.a_margin && memcmp(a.active, b.active, sizeof a.active) == 0;
+    return found && sums && margins && a.capped == b.capped;
+}
+
 /* Quotes as they came in: the same answer, bit for bit, as the columns of the first of each. */
 static void quotes_as_sent(void)
 {
@@ -193,20 +202,13 @@ static void quotes_as_sent(void)
     sent[4].weight = sent[13].weight = sent[22].weight = 16;
     PortQuotesAnswer a = fit_sent(0.5, c, 27);
     EXPECT(a.read == 27 && a.kept == 9 && a.fit.number == PORT_FITTED && a.fit.capped == 1 && capped[0] == 4 && capped[1] == mark_count);
-    EXPECT(memcmp(&a.fit.slice, &once.slice, sizeof once.slice) == 0 && memcmp(&a.fit.counts, &once.counts, sizeof once.counts) == 0);
-    EXPECT(a.fit.objective == once.objective && a.fit.objective_params == once.objective_params && a.fit.rmse_vol == once.rmse_vol);
-    EXPECT(a.fit.lee_margin == once.lee_margin && a.fit.a_margin == once.a_margin && memcmp(a.fit.active, once.active, sizeof once.active) == 0);
+    EXPECT(same_fit(a.fit, once));
     EXPECT(memcmp(residuals, lone, 36 * sizeof *lone) == 0 && residuals[36] == mark);
 
     /* nine copies of one quote are one quote */
     send(1, 9);
     a = fit_sent(0.25, c, 9);
     EXPECT(a.read == 9 && a.kept == 1 && a.fit.number == PORT_REFUSED_TOO_FEW && a.fit.observed == 1 && a.fit.required == 5 && untouched());
-    /* +0 and -0 are two contents; another number of the same content is no other quote */
-    send(5, 1), sent[1] = sent[0], sent[1].k = 0.0, sent[0].k = -0.0;
-    EXPECT(fit_sent(0.5, c, 5).kept == 5);
-    send(5, 1), sent[1] = sent[0], sent[1].number = 99;
-    EXPECT(fit_sent(0.5, c, 5).kept == 4);
 
     /* the room is for what came in; then sizes, then each quote, repeats and all */
     size_t n = send(9, 3);
@@ -233,6 +235,84 @@ static void quotes_as_sent(void)
     EXPECT(port_raw_fit_quotes(0.5, sizes, reals, (const uint8_t *)sent, 32 * 9 - 1, residuals, 72, capped, 18, counts, values, active) == PORT_REFUSED_LENGTHS && untouched());
 }
 
+/* What two dealers quote alike comes under two numbers, and both count: the answer is that of all columns. */
+static void second_quotes(void)
+{
+    PortFitConfig c = port_default_config();
+    static const uint64_t others[] = {UINT64_MAX, 4 + ((uint64_t)1 << 32), 99};
+    static double all[4 * MOST];
+    quotes(9);
+    for (int i = 9; i < 12; i++)
+        k[i] = k[4], w[i] = w[4], weight[i] = weight[4];
+    PortFitAnswer columns = fit(0.5, c, 12);
+    memcpy(all, residuals, sizeof all);
+    send(9, 1);
+    for (int i = 0; i < 3; i++)
+        sent[9 + i] = sent[4], sent[9 + i].number = others[i];
+    PortQuotesAnswer a = fit_sent(0.5, c, 12);
+    EXPECT(a.read == 12 && a.kept == 12 && a.fit.number == PORT_FITTED && same_fit(a.fit, columns));
+    EXPECT(memcmp(residuals, all, 48 * sizeof *all) == 0 && residuals[48] == mark);
+    /* each of the four sent again */
+    for (int i = 0; i < 3; i++)
+        sent[12 + i] = sent[9 + i];
+    sent[15] = sent[4];
+    quotes(9);
+    a = fit_sent(0.5, c, 16);
+    EXPECT(a.read == 16 && a.kept == 12 && same_fit(a.fit, columns));
+    EXPECT(memcmp(residuals, all, 48 * sizeof *all) == 0 && residuals[48] == mark);
+    /* at +0 and at -0, under two numbers */
+    send(5, 1), sent[1].k = 0.0, sent[3] = sent[1], sent[3].k = -0.0, sent[3].number = 3;
+    EXPECT(fit_sent(0.5, c, 5).kept == 5);
+}
+
+/* The first n quotes sent are refused with 44. */
+static int two_contents(size_t n)
+{
+    return sent_refused(fit_sent(0.5, port_default_config(), n), PORT_REFUSED_TWO_CONTENTS, n);
+}
+
+/* One number with two contents, in whatever bit, beside whatever comes again. */
+static void clashes(void)
+{
+    PortFitConfig c = port_default_config(), bad;
+    send(9, 2), sent[17].k = nextafter(sent[17].k, 1);
+    EXPECT(two_contents(18));
+    send(9, 2), sent[9].w = nextafter(sent[9].w, 1);
+    EXPECT(two_contents(18));
+    send(9, 2), sent[0].weight = nextafter(1, 2);
+    EXPECT(two_contents(18));
+    /* +0 and -0 are two contents */
+    send(9, 2), sent[4].k = 0.0, sent[13].k = -0.0;
+    EXPECT(two_contents(18));
+    send(9, 2), sent[4].w = -0.0, sent[13].w = 0.0;
+    EXPECT(two_contents(18));
+    /* 0 and the largest are numbers as others are; numbers that only end alike are two */
+    send(9, 1), sent[5].number = 0;
+    EXPECT(two_contents(9));
+    send(9, 1), sent[0].number = sent[5].number = UINT64_MAX;
+    EXPECT(two_contents(9));
+    send(9, 1), sent[5].number = (uint64_t)1 << 32;
+    EXPECT(fit_sent(0.5, c, 9).kept == 9);
+    /* the first and the last of the most; both sent again; one of them with the content of an earlier quote of another number */
+    send(256, 1), sent[255].number = sent[0].number;
+    EXPECT(two_contents(256));
+    send(9, 2), sent[9].weight = 2, sent[16] = sent[9], sent[17] = sent[0];
+    EXPECT(two_contents(18));
+    send(2, 1), sent[2] = sent[1], sent[1].k = sent[0].k, sent[1].w = sent[0].w;
+    EXPECT(two_contents(3));
+
+    /* before 1, 2 and 3; after 12, 11 and 10 */
+    send(2, 1), sent[1].number = sent[0].number;
+    bad = c, bad.grid = 4;
+    EXPECT(sent_refused(fit_sent(NAN, bad, 2), PORT_REFUSED_TWO_CONTENTS, 2));
+    EXPECT(sent_refused(fit_sent(0, c, 2), PORT_REFUSED_TWO_CONTENTS, 2) && two_contents(2));
+    EXPECT(sent_refused(port_fit_quotes(0.5, c, sent, 2, residuals, 7, capped, 2), PORT_REFUSED_LENGTHS, 2));
+    bad = c, bad.grid = 256;
+    EXPECT(sent_refused(fit_sent(0.5, bad, 2), PORT_REFUSED_SIZE, 2));
+    send(3, 1), sent[1].number = sent[0].number, sent[2].w = -1;
+    EXPECT(sent_refused(fit_sent(0.5, c, 3), PORT_REFUSED_BAD_OBSERVATION, 3));
+}
+
 static void number_of_8(uint8_t *at, uint64_t x)
 {
     for (int i = 0; i < 8; i++)
@@ -250,7 +330,7 @@ static void float_of_8(uint8_t *at, double x)
 static void house_file(void)
 {
     static uint8_t file[20 + 32 * 9], out[PORT_MOST_ANSWER];
-    static const char answer[] = "read 9 kept 1\nrefused 3 1 5\n", malformed[] = "refused 43 0 0\n";
+    static const char answer[] = "read 9 kept 1\nrefused 3 1 5\n", malformed[] = "refused 43 0 0\n", clashing[] = "read 9 kept 9\nrefused 44 0 0\n";
     size_t length = sizeof answer - 1;
     file[4] = 1;
     float_of_8(file + 8, 0.25);
@@ -268,6 +348,8 @@ static void house_file(void)
     EXPECT(port_run(file, sizeof file, out, length) == length && out[0] == 'r' && out[length] == '#');
     EXPECT(port_run(file, sizeof file - 1, out, sizeof out) == sizeof malformed - 1 && memcmp(out, malformed, sizeof malformed - 1) == 0);
     EXPECT(port_run(file, 0, out, sizeof out) == sizeof malformed - 1);
+    float_of_8(file + 20 + 32 * 8 + 24, 2);
+    EXPECT(port_run(file, sizeof file, out, sizeof out) == sizeof clashing - 1 && memcmp(out, clashing, sizeof clashing - 1) == 0);
 }
 
 static void *all(void *nothing)
@@ -277,6 +359,8 @@ static void *all(void *nothing)
     fits();
     refusals();
     quotes_as_sent();
+    second_quotes();
+    clashes();
     house_file();
     return nothing;
 }

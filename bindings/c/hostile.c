@@ -103,6 +103,14 @@ static double any(void)
     return x;
 }
 
+static void change_a_bit(double *x)
+{
+    uint64_t bits;
+    memcpy(&bits, x, sizeof bits);
+    bits ^= (uint64_t)1 << word() % 64;
+    memcpy(x, &bits, sizeof bits);
+}
+
 /* ---- the elementary functions, for every odd number */
 
 static void elementary(void)
@@ -139,6 +147,11 @@ static PortFitAnswer fit(double tau, PortFitConfig c, size_t nk, size_t nw, size
     size_t rows = a.number ? 0 : 4 * nk, caps = a.number ? 0 : a.capped;
     *buffers = still_marked(r + rows, 8 * (nr - rows)) && still_marked(q + caps, 8 * (nc - caps)) && safe();
     return a;
+}
+
+static int usable(double k, double w, double weight)
+{
+    return isfinite(k) && isfinite(w) && w >= 0 && isfinite(weight) && weight > 0;
 }
 
 static void fits(void)
@@ -201,7 +214,7 @@ static void fits(void)
         for (size_t j = 0; j < 6; j++)
             k[j] = word() % 4 ? (double)j : any(), w[j] = word() % 4 ? 0.04 : any(), t[j] = word() % 4 ? 1 : any();
         for (size_t j = 0; j < n; j++)
-            bad |= !isfinite(k[j]) || !isfinite(w[j]) || w[j] < 0 || !isfinite(t[j]) || !(t[j] > 0);
+            bad |= !usable(k[j], w[j], t[j]);
         const double *pk = reading(k, 8 * n), *pw = reading(w, 8 * n), *pt = reading(t, 8 * n);
         double *r = marked(32 * n);
         uint64_t *q = marked(8 * n);
@@ -209,20 +222,29 @@ static void fits(void)
         int kept = a.number == 0 || (still_marked(r, 32 * n) && still_marked(q, 8 * n));
         if (!((a.number == PORT_REFUSED_BAD_OBSERVATION) == bad && kept && safe()))
             EXPECT(0);
-        /* the same as quotes, some of them sent again: the answer of the columns without the repeats */
+        /* the same as quotes, some of them sent again: the answer of the columns; where the last came with another bit, 44 */
         PortQuote sent[9];
-        size_t copies = n ? word() % 4 : 0;
-        for (size_t j = 0; j < n + copies; j++) {
+        size_t copies = n ? word() % 4 : 0, all = n + copies;
+        uint64_t first = word() % 2 ? word() : 0 - word() % 7; /* numbers of any size, or around 0 and the largest */
+        for (size_t j = 0; j < all; j++) {
             size_t from = j < n ? j : word() % n;
-            sent[j].number = word(), sent[j].k = k[from], sent[j].w = w[from], sent[j].weight = t[from];
+            sent[j].number = first + from, sent[j].k = k[from], sent[j].w = w[from], sent[j].weight = t[from];
         }
-        const PortQuote *s = reading(sent, sizeof *sent * (n + copies));
-        r = marked(32 * (n + copies)), q = marked(8 * (n + copies));
-        PortQuotesAnswer b = port_fit_quotes(0.5, c, s, n + copies, r, 4 * (n + copies), q, n + copies);
-        kept = b.fit.number == 0 || (still_marked(r, 32 * (n + copies)) && still_marked(q, 8 * (n + copies)));
-        if (!((b.fit.number == PORT_REFUSED_BAD_OBSERVATION) == bad && b.read == n + copies && b.kept <= b.read && kept && safe()))
+        int clash = copies && word() % 4 == 0;
+        if (clash) {
+            PortQuote *last = &sent[all - 1];
+            double *values[] = {&last->k, &last->w, &last->weight};
+            change_a_bit(values[word() % 3]);
+            bad |= !usable(last->k, last->w, last->weight);
+        }
+        const PortQuote *s = reading(sent, sizeof *sent * all);
+        r = marked(32 * all), q = marked(8 * all);
+        PortQuotesAnswer b = port_fit_quotes(0.5, c, s, all, r, 4 * all, q, all);
+        uint32_t want = bad ? PORT_REFUSED_BAD_OBSERVATION : clash ? PORT_REFUSED_TWO_CONTENTS : a.number;
+        kept = b.fit.number == 0 || (still_marked(r, 32 * all) && still_marked(q, 8 * all));
+        if (!(b.fit.number == want && b.read == all && b.kept == (bad || clash ? all : n) && kept && safe()))
             EXPECT(0);
-        if (!bad && b.kept == n && !(b.fit.number == a.number && same(b.fit.objective, a.objective) && same(b.fit.slice.a, a.slice.a) && same(b.fit.slice.sigma, a.slice.sigma)))
+        if (b.fit.number == 0 && !(same(b.fit.objective, a.objective) && same(b.fit.slice.a, a.slice.a) && same(b.fit.slice.sigma, a.slice.sigma)))
             EXPECT(0);
     }
     passed++;

@@ -67,6 +67,8 @@ pub enum Refused {
     BadObservation,
     /// 11: more than 256 quotes, or a setting is too large.
     Size,
+    /// 44: one quote number with two contents: k, w or weight differ in a bit.
+    TwoContents,
 }
 
 impl fmt::Display for Refused {
@@ -83,6 +85,7 @@ impl fmt::Display for Refused {
             Self::Rmse { rmse_vol, max_rmse_vol } => write!(f, "the quotes lie too far from any curve: {rmse_vol} in vol, {max_rmse_vol} allowed"),
             Self::BadObservation => write!(f, "a quote is not usable"),
             Self::Size => write!(f, "more than {} quotes, or a setting is too large", crate::MOST_QUOTES),
+            Self::TwoContents => write!(f, "two different quotes have one number: give each its own, and send a quote again only unchanged"),
         }
     }
 }
@@ -134,6 +137,7 @@ impl Refused {
             9 => Self::Rmse { rmse_vol: fit.rmse_vol, max_rmse_vol: fit.max_rmse_vol },
             10 => Self::BadObservation,
             11 => Self::Size,
+            44 => Self::TwoContents,
             other => panic!("no refusal of quotes has the number {other}"),
         }
     }

@@ -116,7 +116,7 @@ extern "C" {
 const _: () = assert!(std::mem::size_of::<SviSlice>() == 64 && std::mem::size_of::<Check>() == 48);
 
 /// The ABI number that this crate was written for.
-pub const ABI: u32 = 1;
+pub const ABI: u32 = 2;
 
 /// The ABI number of the library.
 #[inline]
@@ -225,7 +225,7 @@ pub fn fit_slice(
     }
 }
 
-/// The fit of quotes, 32 bytes each as in a house file, once repeats are dropped. `counts`: read, kept, then those of [`fit_slice`].
+/// [`crate::raw::fit_quotes`] of quotes of 32 bytes each, as in a house file. `counts`: read, kept, then those of [`fit_slice`].
 #[inline]
 pub fn fit_quotes(
     tau: f64,
@@ -456,8 +456,8 @@ mod tests {
     }
 
     #[test]
-    #[should_panic = "the library has ABI number 2, this crate was written for 1: docs/ABI.md"]
+    #[should_panic = "this crate was written for"]
     fn another_abi_number_is_refused() {
-        super::expect_abi(2);
+        super::expect_abi(super::ABI + 1);
     }
 }

@@ -25,7 +25,9 @@ pub use raw::{Counts, FitConfig, KRange, Quote, SviSlice};
 /// The most quotes that a fit takes.
 pub const MOST_QUOTES: usize = 256;
 
-/// Fits the quotes of one expiry: a quote whose k, w and weight equal an earlier one's bit for bit is dropped, then the rest is fitted.
+/// Fits the quotes of one expiry: repeats are dropped, then the rest is fitted. A repeat has the number of an earlier quote and its k, w and weight, bit for
+/// bit; the same under another number is a second quote, and both count. So each quote needs a number of its own: one number with two contents is refused
+/// as [`Refused::TwoContents`].
 /// `settings` is `None` for the defaults. More than [`MOST_QUOTES`] quotes are refused as [`Refused::Size`].
 pub fn fit(tau: f64, settings: Option<&FitConfig>, quotes: &[Quote]) -> Result<Fit, Refused> {
     let (mut residuals, mut capped) = (vec![0.0; 4 * quotes.len()], vec![0; quotes.len()]);

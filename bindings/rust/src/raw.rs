@@ -10,7 +10,7 @@ pub const MOST_ANSWER: usize = 32768;
 #[repr(C)]
 #[derive(Debug, Clone, Copy, PartialEq)]
 pub struct Quote {
-    /// The dealer's number of the quote. It does not enter the fit.
+    /// The quote's own number, which it keeps when it is sent again. It tells a retry from a second quote and does not enter the fit.
     pub number: u64,
     /// Log moneyness, ln(strike / forward).
     pub k: f64,
@@ -219,8 +219,8 @@ pub struct QuotesAnswer {
     pub fit: FitAnswer,
 }
 
-/// Fits quotes as they came in: one whose k, w and weight equal an earlier one's bit for bit is dropped, then the rest is fitted as by [`fit_slice`],
-/// residuals and capped positions being those of the quotes kept. It wants room for every quote that came in: 4 n and n.
+/// Fits quotes as they came in: repeats are dropped as by [`crate::fit`], then the rest is fitted as by [`fit_slice`], residuals and capped positions being
+/// those of the quotes kept. It wants room for every quote that came in: 4 n and n. One number with two contents is 44, after 12, 11 and 10.
 pub fn fit_quotes(tau: f64, config: FitConfig, quotes: &[Quote], residuals: &mut [f64], capped: &mut [usize]) -> QuotesAnswer {
     let (sizes, reals) = config.rows();
     let (mut counts, mut values, mut active) = ([0; 10], [0.0; 14], [false; 7]);

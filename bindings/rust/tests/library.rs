@@ -23,23 +23,60 @@ fn nine_copies_change_nothing_but_the_count() {
     assert_eq!((a.slice, &a.points, a.counts), (b.slice, &b.points, b.counts));
 }
 
-#[test]
-fn fit_and_fit_slice_agree() {
-    let quotes = smile();
+/// The fit of quotes of which all count, and the fit of their columns, say the same.
+fn all_count(quotes: &[Quote]) {
+    let n = quotes.len();
     let column = |f: fn(&Quote) -> f64| quotes.iter().map(f).collect::<Vec<_>>();
     let (k, w, weight) = (column(|q| q.k), column(|q| q.w), column(|q| q.weight));
-    let (mut residuals, mut capped) = (vec![f64::NAN; 40], vec![99; 9]);
+    let (mut residuals, mut capped) = (vec![f64::NAN; 4 * n + 4], vec![99; n]);
     let raw = raw::fit_slice(0.5, FitConfig::default(), &k, &w, &weight, &mut residuals, &mut capped);
-    let read = fit(0.5, None, &quotes).unwrap();
-    assert_eq!(raw.number, 0);
+    let read = fit(0.5, None, quotes).unwrap();
+    assert_eq!((raw.number, read.read, read.kept), (0, n, n));
     assert_eq!((raw.slice, raw.counts, raw.active), (read.slice, read.counts, read.active));
     assert_eq!(
         [raw.objective, raw.objective_params, raw.lee_margin, raw.a_margin, raw.rmse_vol],
         [read.objective, read.objective_params, read.lee_margin, read.a_margin, read.rmse_vol]
     );
     let rows: Vec<f64> = read.points.iter().flat_map(|p| [p.k, p.w, p.fitted, p.residual]).collect();
-    assert_eq!(residuals[..36], rows[..]);
-    assert!(residuals[36..].iter().all(|x| x.is_nan()) && capped == [99; 9]);
+    assert_eq!(residuals[..4 * n], rows[..]);
+    assert!(residuals[4 * n..].iter().all(|x| x.is_nan()) && capped == vec![99; n]);
+}
+
+#[test]
+fn fit_and_fit_slice_agree() {
+    all_count(&smile());
+}
+
+#[test]
+fn what_two_dealers_quote_alike_counts_twice() {
+    let mut quotes = smile();
+    quotes.extend([Quote { number: 0, ..quotes[4] }, Quote { number: u64::MAX, ..quotes[4] }, Quote { number: 304 + (1 << 32), ..quotes[4] }]);
+    all_count(&quotes);
+    let retried = [&quotes[..], &quotes[9..]].concat();
+    let (once, again) = (fit(0.5, None, &quotes).unwrap(), fit(0.5, None, &retried).unwrap());
+    assert_eq!((again.read, again.kept, again.slice, again.points), (15, 12, once.slice, once.points));
+}
+
+#[test]
+fn one_number_with_two_contents_is_heard() {
+    let changes: [fn(&mut Quote); 4] =
+        [|q| q.k = f64::from_bits(q.k.to_bits() ^ 1), |q| q.w = f64::from_bits(q.w.to_bits() ^ 1), |q| q.weight = 2.0, |q| q.weight = 5e-324];
+    for (change, number) in changes.into_iter().zip([0, 304, 1 << 32, u64::MAX]) {
+        let mut quotes = smile();
+        quotes[4].number = number;
+        let mut other = quotes[4];
+        change(&mut other);
+        for at in [0, 4, 5, 9] {
+            let mut sent = quotes.clone();
+            sent.insert(at, other);
+            assert_eq!(fit(0.5, None, &sent), Err(Refused::TwoContents));
+            // Sent again, both of them, it is a clash all the same.
+            assert_eq!(fit(0.5, None, &[&sent[..], &sent[..]].concat()), Err(Refused::TwoContents));
+        }
+    }
+    let zeros = |number| [Quote { number: 7, k: 0.0, w: 0.25, weight: 1.0 }, Quote { number, k: -0.0, w: 0.25, weight: 1.0 }];
+    assert_eq!(fit(0.5, None, &zeros(7)), Err(Refused::TwoContents));
+    assert_eq!(fit(0.5, None, &zeros(8)), Err(Refused::TooFew { observed: 2, required: 5 }));
 }
 
 #[test]
@@ -82,6 +119,11 @@ fn every_refusal_has_its_case() {
     assert!(not_numbers.iter().all(|change| refused(0.5, None, &with(*change)) == Refused::BadObservation));
     assert_eq!(refused(0.5, Some(&set(|c| c.grid = 256)), &good), Refused::Size);
     assert_eq!(refused(0.5, None, &[good[0]; MOST_QUOTES + 1]), Refused::Size);
+    // 44 comes after 11 and 10 and before 1, 2 and 3.
+    let clash = with(|q| q.number = 300);
+    assert_eq!(refused(f64::NAN, Some(&set(|c| c.grid = 4)), &clash[..2]), Refused::TwoContents);
+    assert_eq!(refused(0.5, Some(&set(|c| c.grid = 256)), &clash), Refused::Size);
+    assert_eq!(refused(0.5, None, &[clash, with(|q| q.w = -1.0)].concat()), Refused::BadObservation);
     assert_eq!(refused(0.5, None, &good[..4]).to_string(), "too few quotes: 4 left, 5 needed");
 }
 
@@ -140,5 +182,5 @@ fn elementary_functions() {
 
 #[test]
 fn the_abi_number() {
-    assert_eq!((abi(), ABI), (1, 1));
+    assert_eq!((abi(), ABI), (2, 2));
 }

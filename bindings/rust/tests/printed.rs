@@ -93,6 +93,7 @@ fn refused(why: Refused, raw: &QuotesAnswer) -> String {
         Refused::Rmse { rmse_vol, max_rmse_vol } => (9, Some([rmse_vol, max_rmse_vol].map(hex))),
         Refused::BadObservation => (10, None),
         Refused::Size => (11, None),
+        Refused::TwoContents => (44, None),
     };
     assert_eq!(number, raw.fit.number);
     if (6..=9).contains(&number) {
@@ -150,5 +151,5 @@ fn quotes_and_file_have_one_answer() {
         let files = std::fs::read_dir(root.join(folder)).unwrap().map(|entry| entry.unwrap().path());
         numbers.extend(files.filter(|path| path.extension().is_some_and(|x| x == "house")).map(|path| same(&path)));
     }
-    assert_eq!(numbers.into_iter().collect::<Vec<_>>(), [0, 1, 2, 3, 4, 5, 6, 7, 8, 9, 10, 11, 43]);
+    assert_eq!(numbers.into_iter().collect::<Vec<_>>(), [0, 1, 2, 3, 4, 5, 6, 7, 8, 9, 10, 11, 43, 44]);
 }
