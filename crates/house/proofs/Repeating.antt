@@ -7,7 +7,7 @@ use native.Mathlib.Omega.{arith}
 use native.Mathlib.Nat.{zero-add, sub-zero}
 use native.Mathlib.Numerals.{add-one}
 use lib.Dec.{eqb}
-use borrow.Author.Tests.{eq-eqb, ne-eqb, not-true, not-false}
+use borrow.Author.Tests.{not-true, not-false}
 use Rattle.house.specs.declared.Quote.{Quote}
 use Rattle.house.specs.File.{quoteAt, quotes}
 use Rattle.house.specs.Check.{quotePasses, allPass}
@@ -28,12 +28,16 @@ or-stops t y step h inv = sym (ap (λ (b : Bool). b || y) h) ∙ sym step ∙ in
 or-goes : (t y : Bool) {x w : Bool} → x ≡ (t || y) → t ≡ false → x ≡ w → y ≡ w
 or-goes t y step h inv = sym (ap (λ (b : Bool). b || y) h) ∙ sym step ∙ inv
 
--- what is asked behind two numbers, which are read first
-pub numbers-differ : (a b : ℕ) (t : Bool) → (a ≡ b → ⊥) → false ≡ (eqb a b && t)
-numbers-differ a b t h = sym (ap (λ (x : Bool). x && t) (ne-eqb a b h))
+-- what is asked behind two numbers, x and y, which are read first, as m and n
+module _ {m n x y : ℕ} (e : m ≡ x) (f : n ≡ y) where
+  told-numbers : {b : Bool} → eqb m n ≡ b → eqb x y ≡ b
+  told-numbers h = rw (← e, ← f) h
 
-pub numbers-equal : (a b : ℕ) {r t : Bool} → a ≡ b → r ≡ t → r ≡ (eqb a b && t)
-numbers-equal a b {r} {t} e h = h ∙ sym (ap (λ (x : Bool). x && t) (eq-eqb a b e))
+  pub numbers-differ : (t : Bool) → not (eqb m n) ≡ true → false ≡ (eqb x y && t)
+  numbers-differ t h = sym (ap (λ (b : Bool). b && t) (told-numbers (not-true (eqb m n) h)))
+
+  pub numbers-equal : {r t : Bool} → not (eqb m n) ≡ false → r ≡ t → r ≡ (eqb x y && t)
+  numbers-equal {r} {t} h k = k ∙ sym (ap (λ (b : Bool). b && t) (told-numbers (not-false (eqb m n) h)))
 
 -- ---- check 10
 

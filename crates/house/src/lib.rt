@@ -151,7 +151,8 @@ fn clashes_at(s: &[u8], at: usize, q: Quote) -> bool
     requires { ⌜ at ≤ length (now s) ⌝ }
     ensures { λ r. ⌜ r ≡ clash q (quoteAt (now (s .entry)) at) ⌝ }
 {
-    if q.number != bits::u64_at(s, at) {
+    let same_number = q.number == bits::u64_at(s, at);
+    if !same_number {
         return false;
     }
     !same_content(q, quote_at(s, at))
@@ -223,7 +224,8 @@ fn same_at(s: &[u8], at: usize, q: Quote) -> bool
     requires { ⌜ at ≤ length (now s) ⌝ }
     ensures { λ r. ⌜ r ≡ sameQuote (quoteAt (now (s .entry)) at) q ⌝ }
 {
-    if bits::u64_at(s, at) != q.number {
+    let same_number = bits::u64_at(s, at) == q.number;
+    if !same_number {
         return false;
     }
     same_content(quote_at(s, at), q)
