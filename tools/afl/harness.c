@@ -83,7 +83,8 @@ static void look_at_answer(void) {
     unsigned number;
     if (sscanf(p, "refused %u ", &number) != 1) abort();
     if (searched != (number >= 6 && number <= 9)) abort();
-    if (number < 1 || number > 12) abort();
+    if ((number < 1 || number > 12) && number != 44) abort();
+    if ((number == 10 || number == 11 || number == 44) && k != r) abort(); /* refused before anything is dropped */
     p = number == 9 ? whole(line(p, "refused", 1, 0), "", 2, 1) : whole(p, "refused", 3, 0);
     if (*p) abort();
 }

@@ -29,7 +29,7 @@ CONSTRAINTS = (
     ("a_min", "a is at its lower bound"),
     ("a_max", "a is at its upper bound"),
 )
-NUMBERS = tuple(range(1, 12)) + (43,)  # what the program can refuse with
+NUMBERS = tuple(range(1, 12)) + (43, 44)  # what the program can refuse with
 
 # The answer: fit, margins and search are dictionaries; x and y are the refusal's two values.
 Answer = namedtuple("Answer", "read kept fit search margins active capped points number x y")

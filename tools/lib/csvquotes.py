@@ -10,7 +10,7 @@ import csv
 import math
 import re
 
-from housefile import MOST_QUOTES, Quote
+from housefile import MOST_QUOTES, Quote, first_clash
 from words import shown
 
 FORMS = (("number", "k", "w", "weight"), ("number", "strike", "forward", "vol", "weight"))
@@ -115,7 +115,7 @@ def quote_of(fields, tau, unchecked):
 
 def read(text, name, tau, unchecked=False):
     """The quotes of a CSV text, and notes for the user. BadInput says the line."""
-    form, names, quotes, notes = None, [], [], []
+    form, names, quotes, places, notes = None, [], [], [], []  # places: the line of each quote
     for line, fields in located(name, lines_of(text)):
         with_line = f"{name} line {line}"
         try:
@@ -135,6 +135,7 @@ def read(text, name, tau, unchecked=False):
                 raise BadInput(f"more than {MOST_QUOTES} quotes; a house file holds at most {MOST_QUOTES}")
             by_name = {n: field for n, field in zip(names, fields) if n in form}
             quotes.append(quote_of(by_name, tau, unchecked))
+            places.append(line)
             vol = decimal(by_name["vol"], "vol", unchecked) if "vol" in by_name else 0.0
             if vol > 4:
                 notes.append(f"{with_line}: vol {vol:g} means {vol * 100:g} %; is {vol / 100:g} meant?")
@@ -142,6 +143,10 @@ def read(text, name, tau, unchecked=False):
             raise BadInput(f"{with_line}: {error}") from None
     if form is None:
         raise BadInput(f"{name}: empty; the first line must name the columns: {', '.join(FORMS[0])}; or {', '.join(FORMS[1])}")
+    clash = None if unchecked else first_clash(quotes)
+    if clash:
+        earlier, later = clash
+        raise BadInput(f"{name} line {places[later]}: number {quotes[later].number} stands in line {places[earlier]} with other values")
     return quotes, notes
 
 

@@ -87,12 +87,55 @@ def bits(x):
     return struct.unpack("<Q", struct.pack("<d", x))[0]
 
 
-def key(quote):
-    """What makes a repeat: the bits of k, w and weight."""
+def content(quote):
+    """What a quote says: the bits of k, w and weight."""
     return bits(quote.k), bits(quote.w), bits(quote.weight)
 
 
+def key(quote):
+    """What makes a retry: the number and the content."""
+    return quote.number, content(quote)
+
+
 def firsts(quotes):
-    """For each record the position of the first record with the same k, w and weight."""
+    """For each record the position of the first record with its number and content."""
     seen = {}
     return [seen.setdefault(key(quote), i) for i, quote in enumerate(quotes)]
+
+
+def kept(quotes):
+    """Positions of the records that are no retries."""
+    return [i for i, first in enumerate(firsts(quotes)) if i == first]
+
+
+def alike(quotes, places, what):
+    """Those of the places whose quotes have the same `what`, where it is more than one: {first: [first, later, ..]}."""
+    found = {}
+    for i in places:
+        found.setdefault(what(quotes[i]), []).append(i)
+    return {same[0]: same for same in found.values() if len(same) > 1}
+
+
+def retries(quotes):
+    """Each quote that was sent more than once: {first: [first, retry, ..]}."""
+    return alike(quotes, range(len(quotes)), key)
+
+
+def clashes(quotes):
+    """Each number that has more than one content: {first: [first, the first with each other content, ..]}. The fit refuses them as 44."""
+    return alike(quotes, kept(quotes), lambda quote: quote.number)
+
+
+def first_clash(quotes):
+    """[earlier, later]: the first record that clashes with one before it, and the earliest of those; None where no number clashes."""
+    return min((places[:2] for places in clashes(quotes).values()), key=lambda pair: pair[1], default=None)
+
+
+def differing(quotes):
+    """Which of k, w and weight differ among these quotes."""
+    names = []
+    for name in ("k", "w", "weight"):
+        values = [getattr(quote, name) for quote in quotes]
+        if len(set(map(bits, values))) > 1:
+            names.append(name if any(values) else f"{name} (+0 and -0)")
+    return names

@@ -1,10 +1,10 @@
-"""What a dealer should see in a file before it is fitted: repeats, odd quotes, refusals that need no search."""
+"""What a dealer should see in a file before it is fitted: retries, second quotes, clashes, odd quotes, refusals that need no search."""
 
 import math
 
 from answer import vol
-from housefile import SETTINGS, firsts
-from words import percent, plural
+from housefile import SETTINGS, alike, clashes, content, differing, first_clash, firsts, kept, retries
+from words import listed, percent, plural
 
 FAR = 3.0  # a volatility this many times the median, or this fraction of it, is marked
 
@@ -30,19 +30,6 @@ def usable(quote):
     )
 
 
-def groups(house):
-    """Positions of each quote that stands there more than once: {first: [first, repeat, ..]}."""
-    found = {}
-    for i, first in enumerate(firsts(house.quotes)):
-        found.setdefault(first, []).append(i)
-    return {first: places for first, places in found.items() if len(places) > 1}
-
-
-def kept(house):
-    """Positions of the records that are not repeats."""
-    return [i for i, first in enumerate(firsts(house.quotes)) if i == first]
-
-
 def cap_of(house, places):
     """The largest weight that counts in full, None where it can't be said."""
     weights = [house.quotes[i].weight for i in places]
@@ -57,13 +44,16 @@ def early(house):
     bad = [i for i, quote in enumerate(house.quotes) if not usable(quote)]
     if bad:
         return 10, f"{plural(len(bad), 'quote')} not usable, first record {bad[0]}"
+    two = first_clash(house.quotes)
+    if two:
+        return 44, f"number {house.quotes[two[0]].number} has two contents: {apart(house, two)}"
     floats = [s[name] for name, count, _ in SETTINGS if not count]
     in_range = all(math.isfinite(x) and x > 0 for x in floats) and s["sigma_lo"] < s["sigma_hi"]
     if s["grid"] < 5 or s["min_observations"] < 5 or not in_range:
         return 1, "a setting is out of range"
     if not (math.isfinite(house.tau) and house.tau > 0):
         return 2, f"tau {house.tau!r} is not a time"
-    places = kept(house)
+    places = kept(house.quotes)
     if len(places) < s["min_observations"]:
         return 3, f"too few quotes: {len(places)} left, {s['min_observations']} needed"
     ks = [house.quotes[i].k for i in places]
@@ -92,10 +82,44 @@ def of_quote(quote):
     return words
 
 
+def apart(house, places):
+    """In what records of one number differ."""
+    return f"records {places_in_words(places)} differ in {listed(differing([house.quotes[i] for i in places]))}"
+
+
+def seconds(house):
+    """Each usable content that stands there under more than one number: {first: [first, second quote, ..]}."""
+    return alike(house.quotes, [i for i in kept(house.quotes) if usable(house.quotes[i])], content)
+
+
+def rivals(house):
+    """For each record that clashes those it is named with: the number's first record; for that one, all others."""
+    found = {}
+    for first, *others in clashes(house.quotes).values():
+        found[first] = others
+        found.update((i, [first]) for i in others)
+    return found
+
+
+def resent(house):
+    """Each quote that was sent more than once: {first: [first, retry, ..]}; not those of a number that clashes, of which none can be said to count."""
+    clashing = rivals(house)
+    return {first: places for first, places in retries(house.quotes).items() if first not in clashing}
+
+
+def clash(house, i, others):
+    """The mark of a record whose number stands in these others with another content."""
+    records = "record" if len(others) == 1 else "records"
+    names = listed(differing([house.quotes[j] for j in (i, *others)]))
+    return f"CLASH with {records} {places_in_words(others)}: number {house.quotes[i].number} again, but another {names}: will be refused as 44"
+
+
 def marks(house):
-    """For each record the list of its marks in words; repeats have one, the quotes kept may have several."""
+    """For each record the list of its marks in words; retries have one, the quotes kept may have several."""
     quotes = house.quotes
     first = firsts(quotes)
+    against = rivals(house)
+    before = {i: places[0] for places in seconds(house).values() for i in places[1:]}
     found = [[] for _ in quotes]
     good = [i for i, quote in enumerate(quotes) if i == first[i] and usable(quote)]
     ks = sorted(quotes[i].k for i in good)
@@ -103,11 +127,13 @@ def marks(house):
     positive = [v for v in vols.values() if v]
     middle = median(positive) if len(positive) >= 5 else None
     cap = cap_of(house, good)
-    numbers, spots = {}, {}
+    spots = {}
     for i, quote in enumerate(quotes):
         if i != first[i]:
-            found[i].append(f"REPEAT of record {first[i]}: dropped")
+            found[i].append(f"RETRY of record {first[i]}: dropped")
             continue
+        if i in against:
+            found[i].append(clash(house, i, against[i]))
         if not usable(quote):
             found[i] += [f"{why}: will be refused as 10" for why in of_quote(quote)]
             continue
@@ -120,13 +146,12 @@ def marks(house):
             found[i].append(f"vol {percent(vols[i])} beside a median of {percent(middle)}")
         if len(ks) >= 5 and alone(ks, quote.k):
             found[i].append("k is far from all others")
-        if quote.number in numbers:
-            found[i].append(f"number {quote.number} as in record {numbers[quote.number]}, but another quote: both count")
-        if quote.k in spots:
+        if i in before:
+            found[i].append(f"SECOND QUOTE: record {before[i]} says the same under number {quotes[before[i]].number}; both count")
+        elif quote.k in spots and i not in against:
             other = quotes[spots[quote.k]]
             same = "the same k and w" if other.w == quote.w else "the same k"
             found[i].append(f"{same} as record {spots[quote.k]}: both count")
-        numbers.setdefault(quote.number, i)
         spots.setdefault(quote.k, i)
     return found
 
@@ -139,24 +164,27 @@ def alone(ks, k):
 
 
 def sent(house):
-    """One line for each quote that stands there more than once."""
+    """One line for each number that stands for more than one quote, and one for each quote that stands there more than once."""
     lines = []
-    for first, places in groups(house).items():
-        numbers = sorted({house.quotes[i].number for i in places})
-        quote = f"QUOTE {numbers[0]}" if len(numbers) == 1 else f"ONE QUOTE (numbers {places_in_words(numbers)})"
+    for first, places in clashes(house.quotes).items():
         lines.append(
-            f"{quote} WAS SENT {len(places)} TIMES: records {places_in_words(places)};"
-            f" the first counts, {plural(len(places) - 1, 'repeat is', 'repeats are')} dropped"
+            f"NUMBER {house.quotes[first].number} HAS {len(places)} CONTENTS: {apart(house, places)};"
+            " the queue is broken, and the fit refuses such a file as 44"
+        )
+    for first, places in resent(house).items():
+        lines.append(
+            f"QUOTE {house.quotes[first].number} WAS SENT {len(places)} TIMES: records {places_in_words(places)};"
+            f" the first counts, {plural(len(places) - 1, 'retry is', 'retries are')} dropped"
         )
     return lines
 
 
 def places_in_words(places):
-    """0, 3 to 8, 11."""
+    """0, 3 to 8 and 11."""
     runs = []
     for i in places:
         if runs and i == runs[-1][1] + 1:
             runs[-1][1] = i
         else:
             runs.append([i, i])
-    return ", ".join(str(a) if a == b else f"{a}, {b}" if b == a + 1 else f"{a} to {b}" for a, b in runs)
+    return listed(text for a, b in runs for text in (range(a, b + 1) if b < a + 2 else [f"{a} to {b}"]))

@@ -7,6 +7,7 @@ import html
 import math
 import textwrap
 
+import housefile
 import marks
 import words
 from answer import variance, vol
@@ -14,11 +15,19 @@ from answer import variance, vol
 WIDTH, HEIGHT = 600, 800
 LEFT, RIGHT = 66, 578
 INK, GREY, GRID, PAPER = "#1c2430", "#5b6675", "#e2e6eb", "#ffffff"
-CURVE, BESIDE, REPEAT, CAPPED = "#1858b8", "#c4302b", "#e07b00", "#7b3fb5"
+CURVE, BESIDE, RETRY, SECOND, CAPPED = "#1858b8", "#c4302b", "#e07b00", "#00707a", "#7b3fb5"
 GOOD, BAD = "#16794a", "#b3261e"
 FONT = "Helvetica, Arial, 'DejaVu Sans', sans-serif"
 STEPS = 160  # straight pieces of a curve
 FARTHEST = 1e100  # a quote beyond it has no place in a picture
+# What a quote can be, and what the legend calls it.
+KINDS = (
+    ("retry", "sent more than once"),
+    ("second", "second quote"),
+    ("clash", "one number, two contents"),
+    ("capped", "weight capped"),
+    ("unusable", "not usable, at its k"),
+)
 
 
 def clean(text):
@@ -96,7 +105,7 @@ class Picture:
             f' stroke="{stroke}" stroke-width="{width:g}"{more}/>'
         )
 
-    def done(self, height=HEIGHT):
+    def done(self, height):
         head = [
             f'<svg xmlns="http://www.w3.org/2000/svg" viewBox="0 0 {WIDTH} {number(height)}" role="img" font-family="{FONT}">',
             f"<title>{self.title}</title>",
@@ -114,8 +123,12 @@ def dot(picture, x, y, kind):
     if "unusable" in kind:
         picture.add(f'<path class="unusable" d="M{x} {y}m-8 -8l16 16m0 -16l-16 16" stroke="{BAD}" stroke-width="4"/>')
         return
-    if "repeat" in kind:
-        picture.add(f'<circle class="repeat" cx="{x}" cy="{y}" r="13" fill="none" stroke="{REPEAT}" stroke-width="3"/>')
+    if "clash" in kind:
+        picture.add(f'<path class="clash" d="M{x} {y}m-13 -13h26v26h-26z" fill="none" stroke="{BAD}" stroke-width="3"/>')
+    if "second" in kind:
+        picture.add(f'<path class="second" d="M{x} {y}m-17 -12v24m34 0v-24" stroke="{SECOND}" stroke-width="3.5"/>')
+    if "retry" in kind:
+        picture.add(f'<circle class="retry" cx="{x}" cy="{y}" r="13" fill="none" stroke="{RETRY}" stroke-width="3"/>')
     picture.add(f'<circle class="quote" cx="{x}" cy="{y}" r="6.5" fill="{INK}" stroke="{PAPER}" stroke-width="1.5"/>')
 
 
@@ -154,7 +167,7 @@ def curve(picture, fit, k_scale, v_scale, lo, hi, stroke, dashes=""):
 
 
 def head(picture, name, house, answer):
-    """Badge, verdict, file and what was dropped or capped; the place below is handed back."""
+    """Badge, verdict, file, and in words retries, second quotes and capped weights; the place below is handed back."""
     accepted = answer.number == 0
     badge = "FITTED" if accepted else f"REFUSED {answer.number}"
     wide = len(badge) * 15 + 28
@@ -166,20 +179,29 @@ def head(picture, name, house, answer):
     y = picture.paragraph(22, 88, sentence[0].upper() + sentence[1:], 22, INK, "bold")
     y = picture.paragraph(22, y, name if len(name) <= 90 else name[:88] + "..", 17, GREY)
     if house:
-        for line in repeats_in_words(house):
-            y = picture.paragraph(22, y + 2, line, 19, REPEAT, "bold")
+        for line in retries_in_words(house):
+            y = picture.paragraph(22, y + 2, line, 19, RETRY, "bold")
+        for line in seconds_in_words(house):
+            y = picture.paragraph(22, y + 2, line, 19, SECOND, "bold")
     if answer.capped:
         y = picture.paragraph(22, y + 2, f"{words.plural(len(answer.capped), 'weight')} capped", 19, CAPPED, "bold")
     return y
 
 
-def repeats_in_words(house):
-    groups = marks.groups(house)
-    lines = [f"Quote {house.quotes[i].number} was sent {len(g)} times; it counts once" for i, g in groups.items()]
+def retries_in_words(house):
+    sent = marks.resent(house)
+    lines = [f"Quote {house.quotes[i].number} was sent {len(places)} times; it counts once" for i, places in sent.items()]
     if len(lines) > 2:
-        most = max(len(g) for g in groups.values())
+        most = max(map(len, sent.values()))
         return [f"{len(lines)} quotes were sent more than once (up to {most} times); each counts once"]
     return lines
+
+
+def seconds_in_words(house):
+    said = [i for places in marks.seconds(house).values() for i in places]
+    if len(said) > 2:
+        return [f"{len(said)} quotes say what another one says; all count"]
+    return [f"Quotes {words.listed(house.quotes[i].number for i in said)} say the same; both count"] if said else []
 
 
 def advice(picture, y, answer, why):
@@ -190,19 +212,14 @@ def advice(picture, y, answer, why):
 
 
 def legend(picture, y, kinds, fitted, beside):
-    """Only what the picture shows, in rows that wrap."""
+    """Only what the picture shows, in rows that wrap; the place of the last row is handed back."""
     entries = []
     if fitted:
         entries.append(("line", CURVE, "fitted curve"))
     if beside:
         entries.append(("dashes", BESIDE, beside))
     entries.append(("dot", set(), "quote"))
-    if any("repeat" in kind for kind in kinds):
-        entries.append(("dot", {"repeat"}, "sent more than once"))
-    if any("capped" in kind for kind in kinds):
-        entries.append(("dot", {"capped"}, "weight capped"))
-    if any("unusable" in kind for kind in kinds):
-        entries.append(("dot", {"unusable"}, "not usable, at its k"))
+    entries += [("dot", {kind}, text) for kind, text in KINDS if any(kind in seen for seen in kinds)]
     x = 22.0
     for form, what, text in entries:
         wide = 48 + len(text) * 9.6
@@ -215,6 +232,7 @@ def legend(picture, y, kinds, fitted, beside):
             picture.line(x, y - 6, x + 30, y - 6, what, 3.5, more)
         picture.text(x + 40, y, text)
         x += wide + 14
+    return y
 
 
 def draw(name, house, answer, why=None, beside=None, beside_label=None):
@@ -233,13 +251,13 @@ def draw(name, house, answer, why=None, beside=None, beside_label=None):
     if accepted:
         residuals(picture, house, answer, (lo, hi), bottom + 46, 660)
     picture.text((LEFT + RIGHT) / 2, (660 if accepted else bottom) + 50, "log moneyness k = ln(strike / forward)", anchor="middle")
-    legend(picture, 748, kinds, accepted, beside and (beside_label or "the other curve"))
-    return picture.done()
+    y = legend(picture, 748, kinds, accepted, beside and (beside_label or "the other curve"))
+    return picture.done(max(HEIGHT, y + 22))
 
 
 def drawable(house):
-    """Positions of the records that have a place in the picture: repeats fall onto their first."""
-    vols = {i: vol(house.quotes[i].w, house.tau) for i in marks.kept(house)}
+    """Positions of the records that have a place in the picture: retries fall onto their first."""
+    vols = {i: vol(house.quotes[i].w, house.tau) for i in housefile.kept(house.quotes)}
     return [i for i, v in vols.items() if v is not None and v < FARTHEST and abs(house.quotes[i].k) < FARTHEST]
 
 
@@ -265,19 +283,25 @@ def panel(picture, house, answer, shown, ends, top, bottom, beside):
         curve(picture, beside.fit, k_scale, v_scale, *ends, BESIDE, ' stroke-dasharray="9 6"')
     if answer.fit:
         curve(picture, answer.fit, k_scale, v_scale, *ends, CURVE)
-    groups, places = marks.groups(house), marks.kept(house)
-    capped = {places[i] for i in answer.capped}
-    kinds = []
+    sent, kept = housefile.retries(house.quotes), housefile.kept(house.quotes)
+    of_kind = {
+        "retry": sent,
+        "second": marks.seconds(house),
+        "clash": marks.rivals(house),
+        "capped": {kept[i] for i in answer.capped},
+    }
+    spots = {}  # quotes that lie on one spot are drawn once, with the marks and counts of all
     for i in shown:
-        kind = {"repeat"} if i in groups else set()
-        if i in capped:
-            kind.add("capped")
-        x, y = k_scale(house.quotes[i].k), v_scale(vols[i])
+        kind, counts = spots.setdefault((k_scale(house.quotes[i].k), v_scale(vols[i])), (set(), []))
+        kind.update(name for name, places in of_kind.items() if i in places)
+        if i in sent:
+            counts.append(f"\N{MULTIPLICATION SIGN}{len(sent[i])}")
+    for (x, y), (kind, counts) in spots.items():
         dot(picture, x, y, kind)
-        if i in groups:
+        if counts:
             over = y - 20 > top + 16
-            picture.text(x, y - 19 if over else y + 34, f"\N{MULTIPLICATION SIGN}{len(groups[i])}", 22, REPEAT, "bold", "middle")
-        kinds.append(kind)
+            picture.text(x, y - 19 if over else y + 34, " ".join(counts), 22, RETRY, "bold", "middle")
+    kinds = [kind for kind, _ in spots.values()]
     for i, quote in enumerate(house.quotes):
         if not marks.usable(quote) and k_scale.lo <= quote.k <= k_scale.hi:  # no place on the scale of vols: at the foot
             dot(picture, k_scale(quote.k), bottom - 12, {"unusable"})
@@ -295,9 +319,9 @@ def residuals(picture, house, answer, ends, top, bottom):
     axis_of_vol(picture, scale, 4)
     picture.text(LEFT, top - 10, "quote minus curve, vol points")
     picture.line(LEFT, scale(0), RIGHT, scale(0), GREY, 1.5)
-    groups, places = marks.groups(house), marks.kept(house)
+    sent, kept = housefile.retries(house.quotes), housefile.kept(house.quotes)
     for i, (point, value) in enumerate(zip(answer.points, values)):
         if abs(value) < FARTHEST and abs(point.k) < FARTHEST:
             x = k_scale(point.k)
-            colour = CAPPED if i in answer.capped else REPEAT if places[i] in groups else INK
+            colour = CAPPED if i in answer.capped else RETRY if kept[i] in sent else INK
             picture.line(x, scale(0), x, scale(value), colour, 5)

@@ -10,7 +10,7 @@ REFUSALS = {
     2: ("tau is not a time", "the time to expiry is not a finite number above 0", "give tau in years: 0.25 for three months"),
     3: (
         "too few quotes",
-        "too few quotes are left once repeats are dropped",
+        "too few quotes are left once retries are dropped",
         "wait for more quotes; copies of one quote count once",
     ),
     4: ("one strike only", "the quotes lie at one k, or too far apart to measure", "add quotes at other strikes"),
@@ -50,6 +50,11 @@ REFUSALS = {
         "the bytes are too short, too long, or a count in them is not allowed",
         "make the file again; a copy may have been cut off",
     ),
+    44: (
+        "one number with two contents",
+        "two records have one quote number, but k, w or weight differ (house show names both): the queue that sends the quotes is broken",
+        "find out which of the two is right; take the other out, or give it a number of its own",
+    ),
 }
 
 
@@ -61,6 +66,12 @@ def shown(text):
 
 def plural(count, one, many=None):
     return f"{count:,} {one if count == 1 else many or one + 's'}"
+
+
+def listed(items):
+    """k; k and w; k, w and weight."""
+    *most, last = map(str, items)
+    return f"{', '.join(most)} and {last}" if most else last
 
 
 def short(x):

@@ -101,6 +101,15 @@ class Make(Case):
         self.assertEqual(self.error(K_FORM + "1,inf,0.2,1\n"), "quotes.csv line 2: k 'inf' is not a finite number")
         self.assertEqual(self.error(K_FORM + "1,0,-0.2,1\n"), "quotes.csv line 2: w -0.2 is below 0")
 
+    def test_one_number_with_two_contents(self):
+        """Refused as the fit would, unless unchecked. A copy is a retry, however it is written."""
+        rows = "4,0.1,0.04,1\n5,0,0.04,1\n\n# a note\n4,.10,4e-2,1.0\n5,-0,0.04,1\n4,0.1,0.05,1\n"
+        self.assertEqual(self.error(K_FORM + rows), "quotes.csv line 7: number 5 stands in line 3 with other values")
+        self.assertEqual(self.error(VOL_FORM + "4,100,100,0.2,1\n5,110,100,0.2,1\n4,100,100,0.2,2\n"), "quotes.csv line 4: number 4 stands in line 2 with other values")
+        made = self.make(K_FORM + rows, "--tau", "0.25", "--unchecked")
+        self.assertEqual(made, NO_SETTINGS + expiry(0.25) + records((4, 0.1, 0.04, 1.0), (5, 0.0, 0.04, 1.0), (4, 0.1, 0.04, 1.0), (5, -0.0, 0.04, 1.0), (4, 0.1, 0.05, 1.0)))
+        self.assertEqual(len(self.make(K_FORM + "4,0.1,0.04,1\n5,0.1,0.04,1\n4,0.1,0.04,1\n")), 20 + 32 * 3)
+
     def test_no_text_makes_it_stumble(self):
         chance = random.Random(1)
         odd = ['"', "'", "\0", "\r", "\n", ",", ";", "\t", "#", "nan", "1e400", "--", "\u00bd", "\u0663", "1__0", "0x10", "\ufeff", "\u2028", "\x1c", "20%", "9" * 30]

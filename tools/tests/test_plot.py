@@ -11,6 +11,7 @@ import stat
 import xml.etree.ElementTree as ElementTree
 
 import browser
+import housefile
 import plot
 from support import NO_SETTINGS, SAMPLES, SIX, Case, answer_to, expiry, records
 
@@ -40,7 +41,7 @@ class Plot(Case):
             self.assertIn(text, texts)
         self.assertEqual(self.count(root, "curve"), 1)
         self.assertEqual(self.count(root, "quote"), 6 + 1)  # and the one of the legend
-        self.assertEqual((self.count(root, "repeat"), self.count(root, "capped")), (0, 0))
+        self.assertEqual([self.count(root, kind) for kind, _ in plot.KINDS], [0] * 5)
 
     def test_the_curve_is_where_the_fit_says(self):
         """a 0.01, b 0.1, rho -0.25, m 0, sigma 0.5: w(-0.5) = 0.01 + 0.1 (0.125 + sqrt 0.5), over tau 0.25 a vol of 0.6109."""
@@ -55,18 +56,51 @@ class Plot(Case):
             expected = math.sqrt((0.01 + 0.1 * (-0.25 * k + math.sqrt(k * k + 0.25))) / 0.25)
             self.assertAlmostEqual(spot[1], dots[0][1] + (expected - vols[0]) * per_vol, delta=0.1)
 
-    def test_repeats_and_capped_quotes_are_marked(self):
+    def test_retries_and_capped_quotes_are_marked(self):
         root, texts = self.parts(self.svg(HOUSE_OF_NINE, answer_to(SIX, read=14, capped=(2, 4))))
         self.assertIn("Quote 12 was sent 9 times; it counts once", texts)
         self.assertIn("2 weights capped", texts)
         self.assertIn("×9", texts)
-        self.assertEqual((self.count(root, "repeat"), self.count(root, "capped")), (1 + 1, 2 + 1))
+        self.assertEqual([self.count(root, kind) for kind, _ in plot.KINDS], [1 + 1, 0, 0, 2 + 1, 0])  # each once more in the legend
         self.assertEqual(self.count(root, "quote"), 6 + 3)
 
-    def test_many_repeats_are_told_in_one_line(self):
+    def test_many_retries_are_told_in_one_line(self):
         quotes = [q for q in SIX for _ in range(3)]
         _, texts = self.parts(self.svg(NO_SETTINGS + expiry(0.25) + records(*quotes), answer_to(SIX, read=18)))
         self.assertIn("6 quotes were sent more than once (up to 3", " ".join(texts))
+
+    def test_second_quotes_are_marked_and_named(self):
+        """Two dealers say the same; the quotes of both came twice and more: one spot, with the marks and counts of both."""
+        quotes = [*SIX, (50, *SIX[2][1:])]
+        root, texts = self.parts(self.svg(NO_SETTINGS + expiry(0.25) + records(*quotes, SIX[2], *[quotes[6]] * 2), answer_to(quotes, read=10)))
+        self.assertIn("Quotes 12 and 50 say the same; both count", texts)
+        self.assertIn("second quote", texts)
+        self.assertIn("×2 ×3", texts)
+        self.assertEqual([self.count(root, kind) for kind, _ in plot.KINDS], [1 + 1, 1 + 1, 0, 0, 0])
+        self.assertEqual(self.count(root, "quote"), 6 + 3)
+
+    def test_many_second_quotes_are_told_in_one_line(self):
+        for more, count in (([(50, *SIX[2][1:]), (51, *SIX[2][1:])], 3), ([(50, *SIX[2][1:]), (51, *SIX[4][1:])], 4)):
+            quotes = [*SIX, *more]
+            _, texts = self.parts(self.svg(NO_SETTINGS + expiry(0.25) + records(*quotes), answer_to(quotes)))
+            self.assertIn(f"{count} quotes say what another one says; all count", texts)
+
+    def test_a_clash_is_marked_and_named(self):
+        n, k, w, weight = SIX[2]
+        for other, what, spots in (((k, 0.07, weight), "w", 2), ((k, w, 2.0), "weight", 1)):
+            root, texts = self.parts(self.svg(NO_SETTINGS + expiry(0.25) + records(*SIX, (n, *other)), "read 7 kept 7\nrefused 44 0 0\n"))
+            whole = " ".join(texts)
+            self.assertIn("One number with two contents", texts)
+            self.assertIn(f"Why: number 12 has two contents: records 2 and 6 differ in {what}. What to do: find out which", whole)
+            self.assertIn("one number, two contents", texts)
+            self.assertEqual([self.count(root, kind) for kind, _ in plot.KINDS], [0, 0, spots + 1, 0, 0])
+            self.assertEqual(self.count(root, "quote"), 5 + spots + 2)
+
+    def test_no_retry_of_a_clash_is_said_to_count(self):
+        quotes = [*SIX, (12, -0.1, 0.07, 1.0), SIX[2], SIX[5]]
+        root, texts = self.parts(self.svg(NO_SETTINGS + expiry(0.25) + records(*quotes), "read 9 kept 9\nrefused 44 0 0\n"))
+        self.assertEqual([text for text in texts if "counts once" in text], ["Quote 15 was sent 2 times; it counts once"])
+        self.assertEqual((self.count(root, "retry"), self.count(root, "clash")), (2 + 1, 2 + 1))
 
     def test_refusals_show_the_quotes_and_say_why(self):
         root, texts = self.parts(self.svg(HOUSE_OF_SIX, "read 6 kept 6\nsearch 1 0 0 441 28224\nrefused 7 0 0\n"))
@@ -77,10 +111,16 @@ class Plot(Case):
         self.assertIn("What to do: add quotes in the wings", whole)
 
     def test_an_unusable_quote_is_left_out_and_named(self):
-        house = NO_SETTINGS + expiry(0.25) + records(*SIX, (9, 0.4, math.nan, 1.0), (10, math.inf, -1.0, 1.0))
+        house = NO_SETTINGS + expiry(0.25) + records(*SIX, (20, 0.4, math.nan, 1.0), (21, math.inf, -1.0, 1.0))
         root, texts = self.parts(self.svg(house, "read 8 kept 8\nrefused 10 0 0\n"))
         self.assertEqual((self.count(root, "quote"), self.count(root, "unusable")), (7, 1 + 1))
         self.assertIn("Why: 2 quotes not usable, first record 6.", texts)
+
+    def test_unusable_quotes_that_agree_are_no_second_quotes(self):
+        house = NO_SETTINGS + expiry(0.25) + records(*SIX, (20, 0.4, 0.05, 0.0), (21, 0.4, 0.05, 0.0))
+        root, texts = self.parts(self.svg(house, "read 8 kept 8\nrefused 10 0 0\n"))
+        self.assertEqual((self.count(root, "second"), self.count(root, "unusable")), (0, 2 + 1))
+        self.assertNotIn("both count", " ".join(texts))
 
     def test_a_malformed_file(self):
         _, texts = self.parts(self.svg(HOUSE_OF_SIX[:-1], "refused 43 0 0\n"))
@@ -122,10 +162,10 @@ class Plot(Case):
         chance = random.Random(8)
         odd = [0.0, -0.0, 5e-324, 1e-310, 1e-12, 1.0, 0.25, 3.0, 1e99, 1e200, 1.7e308, -1.7e308, math.inf, math.nan]
         for _ in range(60):
-            quotes = [(i, *[chance.choice(odd) for _ in range(3)]) for i in range(chance.randrange(8))]
-            quotes = list({tuple(map(str, q[1:])): q for q in quotes}.values())
+            quotes = [(chance.choice((i, 7)), *[chance.choice(odd) for _ in range(3)]) for i in range(chance.randrange(8))]
+            quotes = list({tuple(map(str, q)): q for q in quotes}.values())
             data = NO_SETTINGS + expiry(chance.choice(odd)) + records(*quotes)
-            for text in (f"read {len(quotes)} kept {len(quotes)}\nrefused 10 0 0\n", answer_to(quotes, tau=chance.choice(odd))):
+            for text in (*(f"read {len(quotes)} kept {len(quotes)}\nrefused {number} 0 0\n" for number in (10, 44)), answer_to(quotes, tau=chance.choice(odd))):
                 ElementTree.fromstring(self.svg(data, text))
 
 
@@ -154,6 +194,7 @@ class InABrowser(Case):
         "bad-quote.house": "read 7 kept 7\nrefused 10 0 0\n",
         "no-span.house": "read 6 kept 6\nrefused 4 0 0\n",
         "grid-edge.house": "read 8 kept 8\nsearch 13 0 12 5733 334782\nrefused 7 0 0\n",
+        "clash.house": "read 8 kept 8\nrefused 44 0 0\n",
     }
 
     def pictures(self):
@@ -165,6 +206,14 @@ class InABrowser(Case):
         self.put("b.txt", answer_to(NINE, a=0.02))
         words = ("--beside", "b.txt", "--beside-label", "as the old fitter", "--title", "a title that is rather longer than most of the titles that one sees")
         made["nine"] = self.house("plot", "nine.house", "--answer", "a.txt", *words).decode()
+        # all that a fitted file can show, under the longest numbers: the legend takes a third row
+        longest = [(2**64 - 1 - i, *quote[1:]) for i, quote in enumerate([*SIX, SIX[3]])]
+        self.put("all.house", NO_SETTINGS + expiry(0.25) + records(*longest, *longest[:1], *longest[6:] * 8))
+        self.put("a.txt", answer_to(longest, read=16, capped=(2, 4)))
+        made["all"] = self.house("plot", "all.house", "--answer", "a.txt", *words).decode()
+        with open(os.path.join(SAMPLES, "two-dealers.house"), "rb") as file:
+            dealers = housefile.decode(file.read()).quotes
+        made["two dealers"] = self.house("plot", os.path.join(SAMPLES, "two-dealers.house"), "--answer", self.put("a.txt", answer_to(dealers))).decode()
         return made
 
     def page(self, pictures, width):
@@ -187,7 +236,13 @@ class InABrowser(Case):
                     self.assertFalse(across > 1 and down > 4, (name, t, other))
 
     def test_colours(self):
-        rows = browser.pixels(self.page([self.pictures()["nine"]], 600), 600, 800)
-        seen = collections.Counter(pixel for row in rows for pixel in row)
-        for colour, least in ((plot.CURVE, 500), (plot.BESIDE, 300), (plot.REPEAT, 200), (plot.CAPPED, 200), (plot.GOOD, 2000), (plot.INK, 500), (plot.PAPER, 300000)):
-            self.assertGreater(seen[tuple(bytes.fromhex(colour[1:]))], least, colour)
+        pictures = self.pictures()
+        for name, least in (
+            ("nine", {plot.CURVE: 500, plot.BESIDE: 300, plot.RETRY: 200, plot.CAPPED: 200, plot.GOOD: 2000, plot.INK: 500, plot.PAPER: 300000}),
+            ("two dealers", {plot.SECOND: 500, plot.GOOD: 2000}),
+            ("clash.house", {plot.BAD: 3000}),
+        ):
+            rows = browser.pixels(self.page([pictures[name]], 600), 600, 800)
+            seen = collections.Counter(pixel for row in rows for pixel in row)
+            for colour, most in least.items():
+                self.assertGreater(seen[tuple(bytes.fromhex(colour[1:]))], most, (name, colour))

@@ -17,7 +17,7 @@ class Read(Case):
         text = self.read(answer_to(SIX, read=9, capped=(2, 5)))
         lines = text.split("\n")
         self.assertEqual(lines[0], "FITTED: 6 quotes, 0.50 vol points rmse")
-        self.assertEqual(lines[1], "9 records read, 6 kept, 3 repeats dropped")
+        self.assertEqual(lines[1], "9 records read, 6 kept, 3 retries dropped")
         self.assertEqual(lines[2], "search      13 passes, 0 recentres, 12 shrinks, 5,733 cells, 51,534 faces")
         self.assertIn("rho         -0.25\n", text)
         self.assertIn("lee_margin        1.875\n", text)
@@ -37,14 +37,16 @@ class Read(Case):
 
     def test_refusals(self):
         for text, words in (
-            ("read 9 kept 1\nrefused 3 1 5\n", "REFUSED 3: too few quotes: 1 left, 5 needed\n9 records read, 1 kept, 8 repeats dropped\n"),
+            ("read 9 kept 1\nrefused 3 1 5\n", "REFUSED 3: too few quotes: 1 left, 5 needed\n9 records read, 1 kept, 8 retries dropped\n"),
+            ("read 2 kept 1\nrefused 3 1 5\n", "REFUSED 3: too few quotes: 1 left, 5 needed\n2 records read, 1 kept, 1 retry dropped\n"),
             ("refused 43 0 0\n", "REFUSED 43: not a house file\nwhy "),
+            ("read 8 kept 8\nrefused 44 0 0\n", "REFUSED 44: one number with two contents\n8 records read, 8 kept\nwhy         two records have one quote number, but "),
             ("read 7 kept 7\nsearch 1 0 0 441 28224\nrefused 7 0 0\n", "REFUSED 7: the best curve is on the edge of the search\n7 records read, 7 kept\n"),
             (f"read 7 kept 7\nsearch 1 0 0 441 28224\nrefused 9 {digits(0.0356)} {digits(0.02)}\n", "REFUSED 9: the quotes lie too far from any curve: 3.56 vol points, 2.00 allowed\n"),
             (f"read 7 kept 7\nsearch 1 0 0 441 28224\nrefused 9 7ff8000000000000 {digits(0.02)}\n", "REFUSED 9: the quotes lie too far from any curve: not a number, 2.00 allowed\n"),
         ):
             self.assertTrue(self.read(text).startswith(words), self.read(text))
-        for number in (1, 2, 4, 5, 10, 11):
+        for number in (1, 2, 4, 5, 10, 11, 44):
             text = self.read(f"read 7 kept 7\nrefused {number} 0 0\n")
             self.assertTrue(text.startswith(f"REFUSED {number}: "))
             self.assertIn("\nwhat to do  ", text)
@@ -55,6 +57,9 @@ class Read(Case):
         out = self.json(f"read 7 kept 7\nsearch 1 0 0 441 28224\nrefused 9 7ff8000000000000 {digits(0.02)}\n")
         self.assertEqual((out["rmse_vol"], out["max_rmse_vol"], out["search"]["faces"]), (None, 0.02, 28224))
         self.assertEqual(self.json("refused 43 0 0\n")["read"], None)
+        out = self.json("read 8 kept 8\nrefused 44 0 0\n")
+        self.assertEqual((out["number"], out["read"], out["kept"], out["words"]), (44, 8, 8, "one number with two contents"))
+        self.assertTrue(out["do"].startswith("find out which of the two is right"))
         out = self.json("read 0 kept 0\nrefused 3 0 18446744073709551615\n")
         self.assertEqual(out["required"], 2**64 - 1)
 
@@ -79,7 +84,9 @@ class Read(Case):
             (good.replace("capped 0", "capped 1 6"), "line 6: a position that is not below 6"),
             (good[: good.rindex("point")], "line 12: 5 points where 6 quotes were kept"),
             (good + "more\n", "line 13: 'more' after the end of the answer"),
-            ("refused 44 0 0\n", "line 1: 44 is not a refusal of the program"),
+            ("refused 45 0 0\n", "line 1: 45 is not a refusal of the program"),
+            ("refused 44 0 0\n", "line 1: a refusal 44 does not stand here"),
+            ("read 1 kept 1\nsearch 1 0 0 441 28224\nrefused 44 0 0\n", "line 3: a refusal 44 does not stand here"),
             ("refused 3 1 5\n", "line 1: a refusal 3 does not stand here"),
             ("read 1 kept 1\nrefused 7 0 0\n", "line 2: a refusal 7 does not stand here"),
             ("read 1 kept 1\nrefused 3 1 5\nrefused 3 1 5\n", "line 3: 'refused 3 1 5' after the end of the answer"),

@@ -23,10 +23,10 @@ class Show(Case):
         text = self.show(NO_SETTINGS, expiry(0.25), records(*[(7, 0.0, 0.25, 1.0)] * 9))
         lines = text.split("\n")
         self.assertEqual(lines[0], "day.house: 9 records, tau 0.25 years, default settings")
-        self.assertEqual(lines[2], "QUOTE 7 WAS SENT 9 TIMES: records 0 to 8; the first counts, 8 repeats are dropped")
+        self.assertEqual(lines[2], "QUOTE 7 WAS SENT 9 TIMES: records 0 to 8; the first counts, 8 retries are dropped")
         self.assertEqual(lines[4], "record  number         k         w      vol  weight")
         self.assertEqual(lines[5], "     0       7  0.000000  0.250000  100.00%       1")
-        self.assertEqual(lines[6], "     1       7  0.000000  0.250000  100.00%       1   REPEAT of record 0: dropped")
+        self.assertEqual(lines[6], "     1       7  0.000000  0.250000  100.00%       1   RETRY of record 0: dropped")
         self.assertEqual(lines[15], "The fit refuses this file as 3: too few quotes: 1 left, 5 needed. What to do: wait for more quotes; copies of one quote count once.")
 
     def test_make_then_show_gives_the_numbers_back(self):
@@ -39,14 +39,97 @@ class Show(Case):
             cells = self.row(text, i).split()
             self.assertEqual((cells[:4], cells[5]), ([str(i), str(n), repr(k), repr(w)], repr(t)))
 
-    def test_repeats_go_by_the_bits_of_k_w_and_weight(self):
-        text = self.show(NO_SETTINGS, expiry(1.0), records(
-            *SIX, (50, *SIX[2][1:]), (51, 0.0, 0.04, 1.0), (52, -0.0, 0.04, 1.0), (SIX[3][0], SIX[3][1], SIX[3][2], 2.0)))
-        self.assertIn("ONE QUOTE (numbers 12, 50) WAS SENT 2 TIMES: records 2, 6; the first counts, 1 repeat is dropped", text)
-        self.assertTrue(self.row(text, 6).endswith("REPEAT of record 2: dropped"))
-        self.assertNotIn("REPEAT", self.row(text, 8))
-        self.assertTrue(self.row(text, 9).endswith("number 13 as in record 3, but another quote: both count; the same k and w as record 3: both count"))
-        self.assertIn("9 quotes go into the fit.", text)
+    def mark(self, text, record):
+        """What stands after the six columns of a record's line."""
+        return " ".join(self.row(text, record).split()[6:])
+
+    def test_retries_go_by_the_number_and_the_bits(self):
+        text = self.show(NO_SETTINGS, expiry(1.0), records(*SIX, SIX[2], SIX[5], SIX[2], (0, 0.0, 0.04, 1.0), (2**64 - 1, 0.3, 0.05, 1.0), (0, 0.0, 0.04, 1.0), (2**64 - 1, 0.3, 0.05, 1.0)))
+        for line in (
+            "QUOTE 12 WAS SENT 3 TIMES: records 2, 6 and 8; the first counts, 2 retries are dropped",
+            "QUOTE 15 WAS SENT 2 TIMES: records 5 and 7; the first counts, 1 retry is dropped",
+            "QUOTE 0 WAS SENT 2 TIMES: records 9 and 11; the first counts, 1 retry is dropped",
+            "QUOTE 18446744073709551615 WAS SENT 2 TIMES: records 10 and 12; the first counts, 1 retry is dropped",
+        ):
+            self.assertIn(f"\n{line}\n", text)
+        self.assertEqual([self.mark(text, i) for i in (5, 6, 7, 8, 11)], ["", *(f"RETRY of record {i}: dropped" for i in (2, 5, 2, 9))])
+        self.assertIn("8 quotes go into the fit.", text)
+
+    def test_one_content_under_two_numbers_is_a_second_quote(self):
+        text = self.show(NO_SETTINGS, expiry(1.0), records(*SIX, (50, *SIX[2][1:]), (50, *SIX[2][1:]), (51, *SIX[2][1:])))
+        self.assertEqual([self.mark(text, i) for i in (2, 6, 7, 8)], [
+            "",
+            "SECOND QUOTE: record 2 says the same under number 12; both count",
+            "RETRY of record 6: dropped",
+            "SECOND QUOTE: record 2 says the same under number 12; both count",
+        ])
+        self.assertIn("8 quotes go into the fit.", text)
+
+    def test_other_contents_at_one_k_are_no_second_quotes(self):
+        k, w = SIX[2][1:3]
+        text = self.show(NO_SETTINGS, expiry(1.0), records(*SIX, (50, k, w, 2.0), (51, k, 0.07, 1.0), (52, 0.0, 0.04, 1.0), (53, -0.0, 0.04, 1.0), (54, k, 0.07, 1.0)))
+        self.assertEqual([self.mark(text, i) for i in range(6, 11)], [
+            "the same k and w as record 2: both count",
+            "the same k as record 2: both count",
+            "",
+            "the same k and w as record 8: both count",
+            "SECOND QUOTE: record 7 says the same under number 51; both count",
+        ])
+        self.assertIn("11 quotes go into the fit.", text)
+
+    def test_a_clash_names_both_records_and_what_differs(self):
+        n, k, w, weight = SIX[2]
+        for other, what in (
+            ((k, 0.07, weight), "w"),
+            ((0.45, w, weight), "k"),
+            ((k, w, 2.0), "weight"),
+            ((0.45, 0.07, weight), "k and w"),
+            ((0.45, 0.07, 2.0), "k, w and weight"),
+        ):
+            with self.subTest(what=what):
+                text = self.show(NO_SETTINGS, expiry(1.0), records(*SIX, (n, *other)))
+                self.assertIn(f"\nNUMBER 12 HAS 2 CONTENTS: records 2 and 6 differ in {what}; the queue is broken, and the fit refuses such a file as 44\n", text)
+                self.assertEqual(self.mark(text, 2), f"CLASH with record 6: number 12 again, but another {what}: will be refused as 44")
+                self.assertEqual(self.mark(text, 6), f"CLASH with record 2: number 12 again, but another {what}: will be refused as 44")
+                self.assertEqual(text.strip().split("\n")[-1], f"The fit refuses this file as 44: number 12 has two contents: records 2 and 6 differ in {what}."
+                                 " What to do: find out which of the two is right; take the other out, or give it a number of its own.")
+
+    def test_the_sign_of_a_zero_makes_a_clash(self):
+        for quotes, what in (
+            ([(7, 0.0, 0.04, 1.0), (7, -0.0, 0.04, 1.0)], "k (+0 and -0)"),
+            ([(7, 0.05, -0.0, 1.0), (7, 0.05, 0.0, 1.0)], "w (+0 and -0)"),
+            ([(7, 0.0, 0.04, 1.0), (7, -0.0, 0.05, 1.0), (7, 0.0, 0.05, 1.0)], "k (+0 and -0) and w"),
+        ):
+            text = self.show(NO_SETTINGS, expiry(1.0), records(*SIX, *quotes))
+            self.assertIn(f"NUMBER 7 HAS {len(quotes)} CONTENTS: records 6 {'and 7' if len(quotes) == 2 else 'to 8'} differ in {what};", text)
+
+    def test_clashes_among_many_records(self):
+        """Number 13, records 3 to 7: a content, another, each of them again, a third. Number 10 stands before it, but clashes after it."""
+        k, w, weight = SIX[3][1:]
+        more = [(13, k, 0.08, weight), SIX[3], (13, k, 0.08, weight), (13, 0.33, w, weight)]
+        text = self.show(NO_SETTINGS, expiry(1.0), records(*SIX[:4], *more, (10, 0.45, 0.05, 1.0), (60, 0.33, w, weight)))
+        self.assertIn("\n\nNUMBER 10 HAS 2 CONTENTS: records 0 and 8 differ in k and w; ", text)
+        self.assertIn("\nNUMBER 13 HAS 3 CONTENTS: records 3, 4 and 7 differ in k and w; ", text)
+        self.assertNotIn("QUOTE 13 WAS SENT", text)
+        self.assertEqual([self.mark(text, i) for i in range(3, 10)], [
+            "CLASH with records 4 and 7: number 13 again, but another k and w: will be refused as 44",
+            "CLASH with record 3: number 13 again, but another w: will be refused as 44",
+            "RETRY of record 3: dropped",
+            "RETRY of record 4: dropped",
+            "CLASH with record 3: number 13 again, but another k: will be refused as 44",
+            "CLASH with record 0: number 10 again, but another k and w: will be refused as 44",
+            "SECOND QUOTE: record 7 says the same under number 13; both count",
+        ])
+        self.assertIn("The fit refuses this file as 44: number 13 has two contents: records 3 and 4 differ in w. ", text)
+
+    def test_what_is_not_usable_is_no_second_quote(self):
+        text = self.show(NO_SETTINGS, expiry(1.0), records(*SIX, (20, 0.1, 0.05, 0.0), (21, 0.1, 0.05, 0.0), (21, 0.1, 0.05, 1.0)))
+        self.assertEqual([self.mark(text, i) for i in (6, 7, 8)], [
+            "weight is not above 0: will be refused as 10",
+            "CLASH with record 8: number 21 again, but another weight: will be refused as 44; weight is not above 0: will be refused as 10",
+            "CLASH with record 7: number 21 again, but another weight: will be refused as 44",
+        ])
+        self.assertIn("The fit refuses this file as 10: ", text)
 
     def test_marks(self):
         text = self.show(NO_SETTINGS, expiry(1.0), records(*SIX, (20, 0.6, 0.05, 10.5), (21, 3.0, 0.05, 1.0), (22, 0.1, 0.0, 1.0), (23, 0.2, 9.0, 10.0)))
@@ -72,6 +155,9 @@ class Show(Case):
             ("11: a setting is too large", (settings(refinements=1001), expiry(1.0), records(*SIX))),
             ("10: 1 quote not usable, first record 0", (settings(grid=4), expiry(math.nan), records(bad))),
             ("10: 2 quotes not usable, first record 6", (NO_SETTINGS, expiry(1.0), records(*SIX, (1, 0.0, -0.1, 1.0), (2, 0.0, 0.1, 0.0)))),
+            ("10: 1 quote not usable, first record 7", (NO_SETTINGS, expiry(1.0), records(*SIX, (15, 0.0, 0.04, 1.0), bad))),
+            ("44: number 15 has two contents: records 5 and 6 differ in k and w", (settings(grid=4), expiry(math.nan), records(*SIX, (15, 0.0, 0.04, 1.0)))),
+            ("44: number 7 has two contents: records 0 and 1 differ in k", (NO_SETTINGS, expiry(1.0), records((7, 0.0, 0.25, 1.0), (7, -0.1, 0.25, 1.0)))),
             ("1: a setting is out of range", (settings(grid=4), expiry(math.nan), few)),
             ("1: a setting is out of range", (settings(sigma_lo=10.0), expiry(1.0), records(*SIX))),
             ("1: a setting is out of range", (settings(a_min=math.nan), expiry(1.0), records(*SIX))),
@@ -110,13 +196,20 @@ class Show(Case):
 
     def test_the_dealer(self):
         text = self.house("show", os.path.join(SAMPLES, "dealer.house")).decode()
-        self.assertIn("QUOTE 104 WAS SENT 9 TIMES: records 3 to 11; the first counts, 8 repeats are dropped", text)
+        self.assertIn("QUOTE 104 WAS SENT 9 TIMES: records 3 to 11; the first counts, 8 retries are dropped", text)
         self.assertIn("7 quotes go into the fit.", text)
+
+    def test_two_dealers_and_a_clash(self):
+        text = self.house("show", os.path.join(SAMPLES, "two-dealers.house")).decode()
+        self.assertEqual(self.mark(text, 4), "SECOND QUOTE: record 3 says the same under number 904; both count")
+        self.assertIn("8 quotes go into the fit.", text)
+        text = self.house("show", os.path.join(SAMPLES, "clash.house")).decode()
+        self.assertIn("NUMBER 804 HAS 2 CONTENTS: records 3 and 7 differ in w; the queue is broken", text)
 
     def test_no_bytes_make_it_stumble(self):
         chance = random.Random(20)
         odd = [0.0, -0.0, 5e-324, 1e-310, 1.0, 0.25, 1e100, 1.7e308, -1.7e308, math.inf, -math.inf, math.nan]
         for _ in range(20):
-            quotes = [(chance.getrandbits(64), *[chance.choice(odd) for _ in range(3)]) for _ in range(chance.randrange(12))]
+            quotes = [(chance.choice((chance.getrandbits(64), 7)), *[chance.choice(odd) for _ in range(3)]) for _ in range(chance.randrange(12))]
             data = NO_SETTINGS + expiry(chance.choice(odd)) + records(*quotes)
             self.house("show", "-", given=data)
