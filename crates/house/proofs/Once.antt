@@ -2,7 +2,7 @@
 -- and what is kept is refused before dropping exactly where all of it is. Assumes nothing.
 use Prim.Native.Nat.{ℕ, _*_, _≤_}
 use mathlib.Core.Path.{_≡_, refl, sym, ap, _∙_}
-use mathlib.Core.Bool.{Bool, true, false, not, _||_, _&&_}
+use mathlib.Core.Bool.{Bool, true, false, not, _||_, _&&_, cond}
 use mathlib.Core.List.{List, [], _∷_, _++_, append-assoc}
 use native.Mathlib.Omega.{arith}
 use lib.Dec.{eqb}
@@ -14,6 +14,7 @@ use Rattle.records.specs.Settings.{sizesHold}
 use Rattle.house.specs.declared.Quote.{Quote}
 use Rattle.house.specs.Check.{quotePasses, allPass}
 use Rattle.house.specs.Repeats.{sameContent, sameQuote, clash, agrees, allAgree, among, unrepeated, keptAfter, kept}
+use Rattle.house.specs.Next.{agreesNext, allAgreeNext}
 use Rattle.house.specs.Taken.{intakeNumber}
 
 -- a record is its four words
@@ -259,6 +260,35 @@ agreeing es (q ∷ qs) = go (among q es) refl (agreeing (es ++ (q ∷ [])) qs)
 pub kept-agree : (qs : List Quote) → allAgree (kept qs) ≡ allAgree qs
 unfolding kept
 kept-agree qs = agreeing [] qs
+
+-- ---- each record and the next one of its number, which answers for those after it
+
+agree-next : (q : Quote) (es : List Quote) → allAgree es ≡ true → agreesNext q es ≡ agrees q es
+unfolding agreesNext agrees allAgree clash sameQuote
+agree-next q [] a = refl
+agree-next q (e ∷ es) a =
+    let n = both (agrees e es) (allAgree es) a in
+    go (eqb (q .number) (e .number)) refl (sameContent q e) refl (n .0) (agree-next q es (n .1))
+  where
+    go : (b : Bool) → eqb (q .number) (e .number) ≡ b → (c : Bool) → sameContent q e ≡ c → agrees e es ≡ true → agreesNext q es ≡ agrees q es → cond b c (agreesNext q es) ≡ (not (b && not c) && agrees q es)
+    go true p true r a f =
+        let same : sameQuote q e ≡ true = ap (λ (b : Bool). b && sameContent q e) p ∙ r in
+        sym (ap (λ (x : Quote). agrees x es) (same-is q e same) ∙ a)
+    go true p false r a f = refl
+    go false p c r a f = f
+
+pub next-is : (qs : List Quote) → allAgreeNext qs ≡ allAgree qs
+unfolding allAgreeNext allAgree
+next-is [] = refl
+next-is (q ∷ qs) = go (allAgree qs) refl (next-is qs)
+  where
+    go : (b : Bool) → allAgree qs ≡ b → allAgreeNext qs ≡ b → (agreesNext q qs && allAgreeNext qs) ≡ (agrees q qs && allAgree qs)
+    go true a f = rw (f, a, agree-next q qs a)
+    go false a f = rw (f, a) (and-false (agreesNext q qs) ∙ sym (and-false (agrees q qs)))
+      where
+        and-false : (b : Bool) → (b && false) ≡ false
+        and-false true = refl
+        and-false false = refl
 
 -- ---- the number that refuses before dropping
 

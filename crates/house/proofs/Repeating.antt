@@ -1,17 +1,20 @@
--- The searches over the records, for one that fails check 10, for a later one that clashes and for an earlier one that is the same, and what is kept from the i-th record on. Assumes nothing.
+-- The searches over the records, for one that fails check 10, for the next one of a number and for an earlier one that is the same, and what is kept from the i-th record on. Assumes nothing.
 use Prim.Native.Nat.{ℕ, zero, suc, _+_, _*_, _-_, _<_, _≤_}
-use mathlib.Core.Path.{_≡_, sym, ap, _∙_}
-use mathlib.Core.Bool.{Bool, true, false, not, _||_, _&&_}
+use mathlib.Core.Path.{_≡_, refl, sym, ap, _∙_}
+use mathlib.Core.Bool.{Bool, true, false, not, _||_, _&&_, cond}
 use mathlib.Core.List.{List, [], _∷_, _++_}
 use native.Mathlib.Omega.{arith}
 use native.Mathlib.Nat.{zero-add, sub-zero}
 use native.Mathlib.Numerals.{add-one}
 use lib.Dec.{eqb}
 use borrow.Author.Tests.{not-true, not-false}
+use Rattle.laws.proofs.Choices.{if-true, if-false}
+use Rattle.bits.specs.Bytes.{u64At}
 use Rattle.house.specs.declared.Quote.{Quote}
 use Rattle.house.specs.File.{quoteAt, quotes}
 use Rattle.house.specs.Check.{quotePasses, allPass}
-use Rattle.house.specs.Repeats.{sameQuote, clash, agrees, allAgree, among, unrepeated, keptAfter, kept}
+use Rattle.house.specs.Repeats.{sameContent, sameQuote, among, unrepeated, keptAfter, kept}
+use Rattle.house.specs.Next.{agreesNext, allAgreeNext}
 use Rattle.house.proofs.Files.{quotes-cons, quotes-snoc}
 
 -- ---- a test made record by record: x is the test t of the first and what is left, y, and x is the whole, w
@@ -27,17 +30,6 @@ or-stops t y step h inv = sym (ap (λ (b : Bool). b || y) h) ∙ sym step ∙ in
 
 or-goes : (t y : Bool) {x w : Bool} → x ≡ (t || y) → t ≡ false → x ≡ w → y ≡ w
 or-goes t y step h inv = sym (ap (λ (b : Bool). b || y) h) ∙ sym step ∙ inv
-
--- what is asked behind two numbers, x and y, which are read first, as m and n
-module _ {m n x y : ℕ} (e : m ≡ x) (f : n ≡ y) where
-  told-numbers : {b : Bool} → eqb m n ≡ b → eqb x y ≡ b
-  told-numbers h = rw (← e, ← f) h
-
-  pub numbers-differ : (t : Bool) → not (eqb m n) ≡ true → false ≡ (eqb x y && t)
-  numbers-differ t h = sym (ap (λ (b : Bool). b && t) (told-numbers (not-true (eqb m n) h)))
-
-  pub numbers-equal : {r t : Bool} → not (eqb m n) ≡ false → r ≡ t → r ≡ (eqb x y && t)
-  numbers-equal {r} {t} h k = k ∙ sym (ap (λ (b : Bool). b && t) (told-numbers (not-false (eqb m n) h)))
 
 -- ---- check 10
 
@@ -57,46 +49,66 @@ unfolding allPass quotes
 all-good s at zero w h inv = inv
 all-good s at (suc n) w h inv = absurd (omega arith)
 
--- ---- a later record that clashes with q
+-- ---- the next record with the number of q
 
-agrees-cons : (q : Quote) (s : List ℕ) (at n : ℕ) → 0 < n → agrees q (quotes s at n) ≡ not (clash q (quoteAt s at)) && agrees q (quotes s (at + 32) (n - 1))
-unfolding agrees
-agrees-cons q s at n h = rw (quotes-cons s at n h)
+next-cons : (q : Quote) (s : List ℕ) (at n : ℕ) → 0 < n → agreesNext q (quotes s at n) ≡ cond (eqb (q .number) (quoteAt s at .number)) (sameContent q (quoteAt s at)) (agreesNext q (quotes s (at + 32) (n - 1)))
+unfolding agreesNext
+next-cons q s at n h = rw (quotes-cons s at n h)
 
-module _ (q : Quote) (s : List ℕ) (at n : ℕ) (r w : Bool) (h : 0 < n) (t : r ≡ clash q (quoteAt s at)) (inv : agrees q (quotes s at n) ≡ w) where
-  pub clashes : r ≡ true → false ≡ w
-  clashes y = and-stops _ _ (agrees-cons q s at n h) (ap not (sym t ∙ y)) inv
+-- its number was read as m
+module _ (q : Quote) (s : List ℕ) (at n m : ℕ) (w : Bool) (h : 0 < n) (e : m ≡ u64At s at) (inv : agreesNext q (quotes s at n) ≡ w) where
+  number-told : {b : Bool} → eqb (q .number) m ≡ b → eqb (q .number) (quoteAt s at .number) ≡ b
+  unfolding quoteAt
+  number-told k = rw (← e) k
 
-  pub passes-by : r ≡ false → agrees q (quotes s (at + 32) (n - 1)) ≡ w
-  passes-by y = and-goes _ _ (agrees-cons q s at n h) (ap not (sym t ∙ y)) inv
+  pub next-met : eqb (q .number) m ≡ true → (x : Quote) → x ≡ quoteAt s at → (r : Bool) → r ≡ sameContent q x → r ≡ w
+  next-met k x p r t = if-true _ (number-told k) (t ∙ ap (sameContent q) p) ∙ sym (next-cons q s at n h) ∙ inv
 
-pub none-clashes : (q : Quote) (s : List ℕ) (at n : ℕ) (w : Bool) → n ≤ 0 → agrees q (quotes s at n) ≡ w → true ≡ w
-unfolding agrees quotes
-none-clashes q s at zero w h inv = inv
-none-clashes q s at (suc n) w h inv = absurd (omega arith)
+  pub next-passed : eqb (q .number) m ≡ false → agreesNext q (quotes s (at + 32) (n - 1)) ≡ w
+  next-passed k = if-false _ (number-told k) refl ∙ sym (next-cons q s at n h) ∙ inv
 
--- ---- a record that clashes with a later one
+pub none-next : (q : Quote) (s : List ℕ) (at n : ℕ) (w : Bool) → n ≤ 0 → agreesNext q (quotes s at n) ≡ w → true ≡ w
+unfolding agreesNext quotes
+none-next q s at zero w h inv = inv
+none-next q s at (suc n) w h inv = absurd (omega arith)
 
-agree-cons : (s : List ℕ) (at n : ℕ) → 0 < n → allAgree (quotes s at n) ≡ agrees (quoteAt s at) (quotes s (at + 32) (n - 1)) && allAgree (quotes s (at + 32) (n - 1))
-unfolding allAgree
+-- ---- each record and the next one of its number
+
+agree-cons : (s : List ℕ) (at n : ℕ) → 0 < n → allAgreeNext (quotes s at n) ≡ agreesNext (quoteAt s at) (quotes s (at + 32) (n - 1)) && allAgreeNext (quotes s (at + 32) (n - 1))
+unfolding allAgreeNext
 agree-cons s at n h = rw (quotes-cons s at n h)
 
-module _ (q : Quote) (s : List ℕ) (at n : ℕ) (r w : Bool) (h : 0 < n) (p : q ≡ quoteAt s at) (t : r ≡ agrees q (quotes s (at + 32) (n - 1))) (inv : allAgree (quotes s at n) ≡ w) where
-  told : agrees (quoteAt s at) (quotes s (at + 32) (n - 1)) ≡ r
-  told = sym (ap (λ (x : Quote). agrees x (quotes s (at + 32) (n - 1))) p) ∙ sym t
+module _ (q : Quote) (s : List ℕ) (at n : ℕ) (r w : Bool) (h : 0 < n) (p : q ≡ quoteAt s at) (t : r ≡ agreesNext q (quotes s (at + 32) (n - 1))) (inv : allAgreeNext (quotes s at n) ≡ w) where
+  told : agreesNext (quoteAt s at) (quotes s (at + 32) (n - 1)) ≡ r
+  told = sym (ap (λ (x : Quote). agreesNext x (quotes s (at + 32) (n - 1))) p) ∙ sym t
 
   pub some-clash : not r ≡ true → false ≡ w
   some-clash y = and-stops _ _ (agree-cons s at n h) (told ∙ not-true r y) inv
 
-  pub no-clash : not r ≡ false → allAgree (quotes s (at + 32) (n - 1)) ≡ w
+  pub no-clash : not r ≡ false → allAgreeNext (quotes s (at + 32) (n - 1)) ≡ w
   no-clash y = and-goes _ _ (agree-cons s at n h) (told ∙ not-false r y) inv
 
-pub all-agreed : (s : List ℕ) (at n : ℕ) (w : Bool) → n ≤ 0 → allAgree (quotes s at n) ≡ w → true ≡ w
-unfolding allAgree quotes
+pub all-agreed : (s : List ℕ) (at n : ℕ) (w : Bool) → n ≤ 0 → allAgreeNext (quotes s at n) ≡ w → true ≡ w
+unfolding allAgreeNext quotes
 all-agreed s at zero w h inv = inv
 all-agreed s at (suc n) w h inv = absurd (omega arith)
 
 -- ---- an earlier record that is the same
+
+-- its number was read as m, before its content
+module _ (q : Quote) (s : List ℕ) (at m : ℕ) (e : m ≡ u64At s at) where
+  read-told : {b : Bool} → eqb m (q .number) ≡ b → eqb (quoteAt s at .number) (q .number) ≡ b
+  unfolding quoteAt
+  read-told k = rw (← e) k
+
+  pub same-no : not (eqb m (q .number)) ≡ true → false ≡ sameQuote (quoteAt s at) q
+  unfolding sameQuote
+  same-no h = sym (ap (λ (b : Bool). b && sameContent (quoteAt s at) q) (read-told (not-true (eqb m (q .number)) h)))
+
+  pub same-yes : not (eqb m (q .number)) ≡ false → (x : Quote) → x ≡ quoteAt s at → (r : Bool) → r ≡ sameContent x q → r ≡ sameQuote (quoteAt s at) q
+  unfolding sameQuote
+  same-yes h x p r t =
+      t ∙ ap (λ (x : Quote). sameContent x q) p ∙ sym (ap (λ (b : Bool). b && sameContent (quoteAt s at) q) (read-told (not-false (eqb m (q .number)) h)))
 
 among-cons : (q : Quote) (s : List ℕ) (at n : ℕ) → 0 < n → among q (quotes s at n) ≡ sameQuote (quoteAt s at) q || among q (quotes s (at + 32) (n - 1))
 unfolding among

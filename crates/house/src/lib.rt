@@ -9,7 +9,8 @@ ghost use lib.ListN.{length};
 ghost use Rattle.laws.specs.Room.{atFront};
 ghost use Rattle.house.specs.File.{houseOf, f64At, tauOf, settingsAt, configOf, quoteAt, quotes, recordsOf};
 ghost use Rattle.house.specs.Check.{kOf, wOf, weightOf, quotePasses, allPass};
-ghost use Rattle.house.specs.Repeats.{sameContent, sameQuote, clash, agrees, allAgree, among, kept};
+ghost use Rattle.house.specs.Repeats.{sameContent, sameQuote, allAgree, among, kept};
+ghost use Rattle.house.specs.Next.{agreesNext};
 ghost use Rattle.house.specs.Taken.{intakeNumber, takenOf};
 
 // How many settings records (0 or 1) and how many observations a well-formed file has.
@@ -146,28 +147,17 @@ fn same_content(a: Quote, b: Quote) -> bool
     (a.k == b.k) & (a.w == b.w) & (a.weight == b.weight)
 }
 
-// Whether the record at a place has the number of q and another content. Its number is read first, since most differ in it.
-fn clashes_at(s: &[u8], at: usize, q: Quote) -> bool
-    requires { ⌜ at ≤ length (now s) ⌝ }
-    ensures { λ r. ⌜ r ≡ clash q (quoteAt (now (s .entry)) at) ⌝ }
-{
-    let same_number = q.number == bits::u64_at(s, at);
-    if !same_number {
-        return false;
-    }
-    !same_content(q, quote_at(s, at))
-}
-
-// Whether q clashes with none of n records, the first at a place.
+// Whether the next of n records with the number of q has its content, or there is none; the first of them stands at a place.
 fn agrees(s: &[u8], from: usize, n: usize, q: Quote) -> bool
     requires { ⌜ from + 32 * n ≤ length (now s) ⌝ }
-    ensures { λ r. ⌜ r ≡ agrees q (quotes (now (s .entry)) from n) ⌝ }
+    ensures { λ r. ⌜ r ≡ agreesNext q (quotes (now (s .entry)) from n) ⌝ }
 {
     let mut at = from;
     let mut left = n;
     while 0 < left {
-        if clashes_at(s, at, q) {
-            return false;
+        let same_number = q.number == bits::u64_at(s, at);
+        if same_number {
+            return same_content(q, quote_at(s, at));
         }
         at += 32;
         left -= 1;
@@ -175,7 +165,7 @@ fn agrees(s: &[u8], from: usize, n: usize, q: Quote) -> bool
     true
 }
 
-// Whether each of n records agrees with all after it.
+// Whether no number of n records has two contents. Each is compared with the next record of its number alone, which answers for those after it.
 fn all_agree(s: &[u8], n: usize) -> bool
     requires { ⌜ 32 * n ≤ length (now s) ⌝ }
     ensures { λ r. ⌜ r ≡ allAgree (quotes (now (s .entry)) 0 n) ⌝ }
