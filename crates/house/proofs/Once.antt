@@ -41,9 +41,9 @@ same-is a b p =
 same-trans : (a b c : Quote) → sameQuote a b ≡ true → sameQuote b c ≡ true → sameQuote a c ≡ true
 same-trans a b c p q = ap (λ (x : Quote). sameQuote x c) (same-is a b p) ∙ q
 
-pub or-true : (a : Bool) {b : Bool} → b ≡ true → (a || b) ≡ true
-or-true true k = refl
-or-true false k = k
+pub or-right : (a : Bool) {b : Bool} → b ≡ true → (a || b) ≡ true
+or-right true k = refl
+or-right false k = k
 
 or-assoc : (a b c : Bool) → (a || (b || c)) ≡ ((a || b) || c)
 or-assoc true b c = refl
@@ -62,7 +62,7 @@ among-same q x (e ∷ es) h s = go (sameQuote e q) refl h (λ r. among-same q x 
   where
     go : (b : Bool) → sameQuote e q ≡ b → (b || among q es) ≡ true → (among q es ≡ true → among x es ≡ true) → (sameQuote e x || among x es) ≡ true
     go true p h f = rw (same-trans e q x p s)
-    go false p h f = or-true (sameQuote e x) (f h)
+    go false p h f = or-right (sameQuote e x) (f h)
 
 -- ---- dropping twice
 

@@ -148,7 +148,7 @@ fn same_content(a: Quote, b: Quote) -> bool
 }
 
 // Whether the next of n records with the number of q has its content, or there is none; the first of them stands at a place.
-fn agrees(s: &[u8], from: usize, n: usize, q: Quote) -> bool
+fn agrees_next(s: &[u8], from: usize, n: usize, q: Quote) -> bool
     requires { ⌜ from + 32 * n ≤ length (now s) ⌝ }
     ensures { λ r. ⌜ r ≡ agreesNext q (quotes (now (s .entry)) from n) ⌝ }
 {
@@ -176,7 +176,7 @@ fn all_agree(s: &[u8], n: usize) -> bool
         let q = quote_at(s, at);
         at += 32;
         left -= 1;
-        if !agrees(s, at, left, q) {
+        if !agrees_next(s, at, left, q) {
             return false;
         }
     }

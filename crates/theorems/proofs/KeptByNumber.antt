@@ -1,5 +1,5 @@
 -- Past 44 the number alone settles what is kept: the first record of each number, in their order, and no two that are kept have one number.
-use Prim.Native.Nat.{ℕ, zero, suc, _+_, _≤_, _<_}
+use Prim.Native.Nat.{ℕ, zero, suc, _+_, _<_}
 use mathlib.Core.Path.{_≡_, refl, sym, ap, _∙_}
 use mathlib.Core.Bool.{Bool, true, false, not, _||_, _&&_}
 use mathlib.Core.List.{List, [], _∷_, _++_, append-assoc}
@@ -14,7 +14,7 @@ use Rattle.laws.proofs.Choices.{off, false-true}
 use Rattle.house.specs.declared.Quote.{Quote}
 use Rattle.house.specs.Repeats.{sameContent, sameQuote, clash, allAgree, among, unrepeated, keptAfter, kept}
 use Rattle.house.specs.When.{nth, Numbered, FirstOfEach, none, dropped, first}
-use Rattle.house.proofs.Once.{same-is, or-true}
+use Rattle.house.proofs.Once.{same-is, or-right}
 use Rattle.theorems.proofs.TwoContents.{agree-at}
 
 -- ---- records of a list and one more
@@ -64,7 +64,7 @@ among-at : (q : Quote) (es : List Quote) (i : ℕ) → i < length es → sameQuo
 unfolding among
 among-at q [] i l h = absurd (omega arith)
 among-at q (e ∷ es) zero l h = rw h
-among-at q (e ∷ es) (suc i) l h = or-true (sameQuote e q) (among-at q es i (omega arith) h)
+among-at q (e ∷ es) (suc i) l h = or-right (sameQuote e q) (among-at q es i (omega arith) h)
 
 -- of two records with one number that do not clash the later is a repeat
 same-by-number : (a b : Quote) → clash a b ≡ false → a .number ≡ b .number → sameQuote a b ≡ true

@@ -1,14 +1,14 @@
--- 44 exactly where some record and an earlier one have one number with two contents and nothing asked before refuses: of quotes in memory, and of a file. Nothing is kept back then: the outcome is that of a refusal before dropping.
-use Prim.Native.Nat.{ℕ, zero, suc, _*_, _%_, _≤_, _<_}
-use mathlib.Core.Path.{_≡_, refl, sym, ap, subst, _∙_}
+-- 44 exactly where some record and an earlier one have one number with two contents and nothing asked before refuses: of quotes in memory, and of a file; and what it carries: zeros but for its number, and as many kept as came in.
+use Prim.Native.Nat.{ℕ, zero, suc, _+_, _*_, _%_, _<_}
+use mathlib.Core.Path.{_≡_, refl, sym, ap, _∙_}
 use mathlib.Core.Logic.{_↔_}
-use mathlib.Core.Bool.{Bool, true, false, not, _&&_, cond}
+use mathlib.Core.Bool.{Bool, true, false, not, _&&_}
 use mathlib.Core.List.{List, [], _∷_, map}
 use native.Mathlib.Omega.{arith}
 use lib.Dec.{eqb, leb}
 use lib.ListN.{length}
 use lib.Ieee.{Float}
-use borrow.Author.Tests.{eqb-true, eq-eqb, ne-eqb, le-leb, leb-true, not-true, not-false}
+use borrow.Author.Tests.{eqb-true, eq-eqb, le-leb, leb-true, not-true, not-false}
 use Rattle.laws.specs.Choice.{unless}
 use Rattle.laws.specs.Some.{Some}
 use Rattle.laws.proofs.Choices.{cond-test, both, split, off, false-true}
@@ -23,6 +23,7 @@ use Rattle.house.specs.Check.{kOf, wOf, weightOf, allPass}
 use Rattle.house.specs.Repeats.{sameContent, clash, agrees, allAgree, kept}
 use Rattle.house.specs.Taken.{intakeNumber}
 use Rattle.house.specs.When.{nth, Clashing, TwoContents, NoneBefore44}
+use Rattle.house.proofs.Files.{quotes-length}
 use Rattle.house.proofs.Once.{content-is}
 use Rattle.outcome.specs.declared.Outcome.{Outcome}
 use Rattle.outcome.specs.Outcome.{refusedAt, quotesOutcome, bytesOutcome, outcomeFor, fileOutcome}
@@ -118,9 +119,8 @@ module _ (config : FitConfig) (qs : List Quote) (room slots : ℕ) where
       rw (le-leb (n * 4) room (w .0 .0 .0), le-leb n slots (w .0 .0 .1), w .0 .1, w .0 .2, some-differ qs (w .1))
 
   module _ (tau : Float) where
-    -- the whole outcome: as many kept as came in, and zeros but for the number
-    pub outcome-44 : NoneBefore44 config qs room slots × TwoContents qs → quotesOutcome tau config qs room slots ≡ refusedAt 44 (length qs)
-    outcome-44 w = sym (refused-is tau config qs room slots 44 (sym (when-intake w)) (λ h. omega arith))
+    when-outcome : When → quotesOutcome tau config qs room slots ≡ refusedAt 44 (length qs)
+    when-outcome w = sym (refused-is tau config qs room slots 44 (sym (when-intake w)) (λ h. omega arith))
 
     quotes-when : quotesOutcome tau config qs room slots .fit .number ≡ 44 → When
     unfolding quotesOutcome refusedWith
@@ -131,7 +131,7 @@ module _ (config : FitConfig) (qs : List Quote) (room slots : ℕ) where
 
     when-quotes : When → quotesOutcome tau config qs room slots .fit .number ≡ 44
     unfolding refusedWith
-    when-quotes w = ap (λ (o : Outcome). o .fit .number) (outcome-44 w)
+    when-quotes w = ap (λ (o : Outcome). o .fit .number) (when-outcome w)
 
 -- ---- what the two public functions answer
 
@@ -142,9 +142,6 @@ pub quotes-44 :
 unfolding bytesOutcome refusedWith
 quotes-44 tau config s room slots = (there, back)
   where
-    qs : List Quote
-    qs = recordsOf s
-
     there : bytesOutcome tau config s room slots .fit .number ≡ 44 → (length s % 32 ≡ 0) × NoneBefore44 config (recordsOf s) room slots × TwoContents (recordsOf s)
     there =
         cond-test (λ (o : Outcome). o .fit .number ≡ 44 → (length s % 32 ≡ 0) × NoneBefore44 config (recordsOf s) room slots × TwoContents (recordsOf s)) (eqb (length s % 32) 0)
@@ -174,3 +171,23 @@ file-44 s room slots = (there, back)
 
     back : Told → fileOutcome s room slots .fit .number ≡ 44
     back w = sym (ap (λ (o : Outcome). o .fit .number) (for-house s room slots (File (w .0) (w .1)) (w .2))) ∙ when-quotes (configOf s (w .0)) (recordsAt s (w .0) (w .1)) room slots (tauOf s (w .0)) (w .3, w .4)
+
+-- ---- what 44 carries
+
+-- quotes in memory
+pub quotes-44-carries :
+    (tau : Float) (config : FitConfig) (s : List ℕ) (room slots : ℕ)
+    → bytesOutcome tau config s room slots .fit .number ≡ 44 → bytesOutcome tau config s room slots ≡ refusedAt 44 (length (recordsOf s))
+unfolding bytesOutcome
+quotes-44-carries tau config s room slots h =
+    let w = quotes-44 tau config s room slots .0 h in
+    rw (eq-eqb (length s % 32) 0 (w .0)) (when-outcome config (recordsOf s) room slots tau (w .1, w .2))
+
+-- a file with v settings records and n observations
+pub file-44-carries :
+    (s : List ℕ) (v n : ℕ) → File v n ≡ houseOf s → (room slots : ℕ)
+    → fileOutcome s room slots .fit .number ≡ 44 → fileOutcome s room slots ≡ refusedAt 44 n
+file-44-carries s v n e room slots h =
+    let is = for-house s room slots (File v n) e in
+    let w = quotes-when (configOf s v) (recordsAt s v n) room slots (tauOf s v) (ap (λ (o : Outcome). o .fit .number) is ∙ h) in
+    sym is ∙ when-outcome (configOf s v) (recordsAt s v n) room slots (tauOf s v) w ∙ ap (refusedAt 44) (quotes-length s (20 + 88 * v) n)

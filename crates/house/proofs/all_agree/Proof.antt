@@ -21,10 +21,10 @@ loop-holds : tie.Need-loop-holds Inv-loop μ-loop
 loop-holds c = (search needs, next-is (quotes (c .before .args .s .now) 0 (c .before .args .n)))
 
 returns : tie.Need-returns Inv-loop μ-loop
-returns c = some-clash (c .before .before .quote-at .result) _ (c .before .before .before .before .loop .at) (c .before .before .before .before .loop .left) (c .before .agrees .result) _ (c .before .before .before .loop-test .taken) (c .before .before .quote-at .ensures) (c .before .agrees .ensures) (c .before .before .before .before .loop .inv .1) (c .if1 .taken)
+returns c = some-clash (c .before .before .quote-at .result) _ (c .before .before .before .before .loop .at) (c .before .before .before .before .loop .left) (c .before .agrees-next .result) _ (c .before .before .before .loop-test .taken) (c .before .before .quote-at .ensures) (c .before .agrees-next .ensures) (c .before .before .before .before .loop .inv .1) (c .if1 .taken)
 
 loop-again : tie.Need-loop-again Inv-loop μ-loop
-loop-again c = (search needs, no-clash (c .before .before .quote-at .result) _ (c .before .before .before .before .loop .at) (c .before .before .before .before .loop .left) (c .before .agrees .result) _ (c .before .before .before .loop-test .taken) (c .before .before .quote-at .ensures) (c .before .agrees .ensures) (c .before .before .before .before .loop .inv .1) (c .if1 .left))
+loop-again c = (search needs, no-clash (c .before .before .quote-at .result) _ (c .before .before .before .before .loop .at) (c .before .before .before .before .loop .left) (c .before .agrees-next .result) _ (c .before .before .before .loop-test .taken) (c .before .before .quote-at .ensures) (c .before .agrees-next .ensures) (c .before .before .before .before .loop .inv .1) (c .if1 .left))
 
 returns-2 : tie.Need-returns-2 Inv-loop μ-loop
 returns-2 c = all-agreed _ (c .before .loop .at) (c .before .loop .left) _ (c .loop-test .left) (c .before .loop .inv .1)

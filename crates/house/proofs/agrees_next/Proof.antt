@@ -1,4 +1,4 @@
--- `house::agrees` meets its contract. Assumes nothing.
+-- `house::agrees_next` meets its contract. Assumes nothing.
 use borrow.Author.Needs.{needs}
 use Prim.Native.Nat.{_+_, _*_, _≤_}
 use mathlib.Core.Path.{_≡_}
@@ -6,8 +6,8 @@ use lib.ListN.{length}
 use Rattle.house.specs.File.{quotes}
 use Rattle.house.specs.Next.{agreesNext}
 use Rattle.house.proofs.Repeating.{next-met, next-passed, none-next}
-use Rattle.house.proofs.agrees.Statement.{statement}
-use Rattle.house.proofs.agrees.Tie as tie
+use Rattle.house.proofs.agrees_next.Statement.{statement}
+use Rattle.house.proofs.agrees_next.Tie as tie
 
 abbrev Inv-loop : tie.InvT-loop
 Inv-loop s from n q at₀ left₀ at left = (at + 32 * left ≤ length s) × (agreesNext q (quotes s at left) ≡ agreesNext q (quotes s from n))
@@ -24,8 +24,8 @@ loop-again c = (search needs, next-passed (c .before .before .before .before .be
 returns-2 : tie.Need-returns-2 Inv-loop μ-loop
 returns-2 c = none-next (c .before .before .before .args .q) _ (c .before .loop .at) (c .before .loop .left) _ (c .loop-test .left) (c .before .loop .inv .1)
 
-pub agrees-spec : {M : Type 1} → statement M
-agrees-spec =
+pub agrees-next-spec : {M : Type 1} → statement M
+agrees-next-spec =
     tie.close
     (tie.spec
     Inv-loop
