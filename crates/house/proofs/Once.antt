@@ -7,8 +7,8 @@ use mathlib.Core.List.{List, [], _∷_, _++_, append-assoc}
 use native.Mathlib.Omega.{arith}
 use lib.Dec.{eqb}
 use lib.ListN.{length}
-use borrow.Author.Tests.{eqb-true, eq-eqb, ne-eqb, le-leb, not-true}
-use Rattle.laws.proofs.Choices.{both, false-true}
+use borrow.Author.Tests.{eqb-true, eq-eqb, le-leb, not-true}
+use Rattle.laws.proofs.Choices.{or-right, or-assoc, and-assoc, and-same, eqb-sym, both, false-true}
 use Rattle.records.specs.declared.FitConfig.{FitConfig}
 use Rattle.records.specs.Settings.{sizesHold}
 use Rattle.house.specs.declared.Quote.{Quote}
@@ -40,14 +40,6 @@ same-is a b p =
 -- being the same passes on
 same-trans : (a b c : Quote) → sameQuote a b ≡ true → sameQuote b c ≡ true → sameQuote a c ≡ true
 same-trans a b c p q = ap (λ (x : Quote). sameQuote x c) (same-is a b p) ∙ q
-
-pub or-right : (a : Bool) {b : Bool} → b ≡ true → (a || b) ≡ true
-or-right true k = refl
-or-right false k = k
-
-or-assoc : (a b c : Bool) → (a || (b || c)) ≡ ((a || b) || c)
-or-assoc true b c = refl
-or-assoc false b c = refl
 
 among-append : (q : Quote) (es fs : List Quote) → among q (es ++ fs) ≡ (among q es || among q fs)
 unfolding among
@@ -170,22 +162,6 @@ unfolding kept allPass
 kept-passes qs = passing [] qs refl
 
 -- ---- one number, one content
-
-and-assoc : (a b c : Bool) → (a && (b && c)) ≡ ((a && b) && c)
-and-assoc true b c = refl
-and-assoc false b c = refl
-
--- what is asked behind a is asked only where a holds
-and-same : (a : Bool) {b c : Bool} → (a ≡ true → b ≡ c) → (a && b) ≡ (a && c)
-and-same true f = f refl
-and-same false f = refl
-
-eqb-sym : (a b : ℕ) → eqb a b ≡ eqb b a
-eqb-sym a b = go (eqb a b) refl
-  where
-    go : (x : Bool) → eqb a b ≡ x → eqb a b ≡ eqb b a
-    go true p = p ∙ sym (eq-eqb b a (sym (eqb-true a b p)))
-    go false p = p ∙ sym (ne-eqb b a (λ h. false-true (sym p ∙ eq-eqb a b (sym h))))
 
 clash-sym : (a b : Quote) → clash a b ≡ clash b a
 unfolding clash sameContent

@@ -33,6 +33,6 @@ Numbered q es = Some (length es) (λ i. nth es i .number ≡ q .number)
 
 -- the first of each number, in their order, where es stand before them all: a record whose number stands before it is dropped, any other is kept
 pub data FirstOfEach : List Quote → List Quote → List Quote → Type 0 where
-  none : {es : List Quote} → FirstOfEach es [] []
-  dropped : {q : Quote} {es qs firsts : List Quote} → Numbered q es → FirstOfEach (es ++ (q ∷ [])) qs firsts → FirstOfEach es (q ∷ qs) firsts
-  first : {q : Quote} {es qs firsts : List Quote} → ¬ Numbered q es → FirstOfEach (es ++ (q ∷ [])) qs firsts → FirstOfEach es (q ∷ qs) (q ∷ firsts)
+  no-more : {es : List Quote} → FirstOfEach es [] []
+  old-number : {q : Quote} {es qs firsts : List Quote} → Numbered q es → FirstOfEach (es ++ (q ∷ [])) qs firsts → FirstOfEach es (q ∷ qs) firsts
+  new-number : {q : Quote} {es qs firsts : List Quote} → ¬ Numbered q es → FirstOfEach (es ++ (q ∷ [])) qs firsts → FirstOfEach es (q ∷ qs) (q ∷ firsts)

@@ -1,7 +1,7 @@
 -- Choices: `cond`, `unless`, chains of tests and of refusal numbers, forwards (what the code hands back is what the definition picks) and backwards
 -- (a chain that ended in acceptance passed each test). Assumes nothing.
 use mathlib.Core.Path.{_≡_, refl, sym, ap, _∙_, subst}
-use mathlib.Core.Bool.{Bool, true, false, not, _&&_, cond}
+use mathlib.Core.Bool.{Bool, true, false, not, _&&_, _||_, cond}
 use Prim.Native.Nat.{ℕ}
 use lib.Dec.{T, eqb}
 use borrow.Author.Tests.{eq-eqb, ne-eqb, eqb-true, not-true, not-false}
@@ -13,6 +13,32 @@ settled e h = e ∙ sym h
 
 pub false-true : {A : Type 0} → false ≡ true → A
 false-true e = absurd (subst T (sym e) tt)
+
+-- ---- bools
+
+pub or-right : (a : Bool) {b : Bool} → b ≡ true → (a || b) ≡ true
+or-right true k = refl
+or-right false k = k
+
+pub or-assoc : (a b c : Bool) → (a || (b || c)) ≡ ((a || b) || c)
+or-assoc true b c = refl
+or-assoc false b c = refl
+
+pub and-assoc : (a b c : Bool) → (a && (b && c)) ≡ ((a && b) && c)
+and-assoc true b c = refl
+and-assoc false b c = refl
+
+-- what is asked behind a is asked only where a holds
+pub and-same : (a : Bool) {b c : Bool} → (a ≡ true → b ≡ c) → (a && b) ≡ (a && c)
+and-same true f = f refl
+and-same false f = refl
+
+pub eqb-sym : (a b : ℕ) → eqb a b ≡ eqb b a
+eqb-sym a b = go (eqb a b) refl
+  where
+    go : (x : Bool) → eqb a b ≡ x → eqb a b ≡ eqb b a
+    go true p = p ∙ sym (eq-eqb b a (sym (eqb-true a b p)))
+    go false p = p ∙ sym (ne-eqb b a (λ h. false-true (sym p ∙ eq-eqb a b (sym h))))
 
 -- ---- one choice
 
@@ -72,10 +98,14 @@ split false b h x y = x refl
 pub off : {b : Bool} → b ≡ false → b ≡ true → ⊥
 off e h = false-true (sym e ∙ h)
 
--- a chain that ends in 0 passed its first test
+-- a chain that ends in m, which is not its first number, passed its first test
+pub past-one : (m : ℕ) (t : Bool) (n rest : ℕ) → (n ≡ m → ⊥) → unless t n rest ≡ m → (t ≡ true) × (rest ≡ m)
+past-one m true n rest f h = (refl, h)
+past-one m false n rest f h = absurd (f h)
+
+-- and so did one that ends in 0
 pub passed-one : (t : Bool) (n rest : ℕ) → (n ≡ 0 → ⊥) → unless t n rest ≡ 0 → (t ≡ true) × (rest ≡ 0)
-passed-one true n rest f h = (refl, h)
-passed-one false n rest f h = absurd (f h)
+passed-one = past-one 0
 
 -- and a number that is handed on is 0 where the chain is
 pub passed-number : (m rest : ℕ) → unless (eqb m 0) m rest ≡ 0 → (m ≡ 0) × (rest ≡ 0)

@@ -24,14 +24,14 @@ use Rattle.outcome.specs.Outcome.{fileOutcome, quotesOutcome, settingsOf}
 use Rattle.run.specs.Answer.{restText, behindRead, answerOf}
 
 -- the bits of 1 and of 0.25
-abbrev one : ℕ
-one = 0x3ff0_0000_0000_0000
+abbrev one-bits : ℕ
+one-bits = 0x3ff0_0000_0000_0000
 
-abbrev quarter : ℕ
-quarter = 0x3fd0_0000_0000_0000
+abbrev quarter-bits : ℕ
+quarter-bits = 0x3fd0_0000_0000_0000
 
 abbrev quote : ℕ → ℕ → ℕ → Quote
-quote number k weight = record { number = number; k = k; w = quarter; weight = weight }
+quote number k weight = record { number = number; k = k; w = quarter-bits; weight = weight }
 
 abbrev file : ℕ → List Quote → List ℕ
 file tau qs = fileBytes 0 [] tau qs
@@ -44,13 +44,13 @@ file tau qs = fileBytes 0 [] tau qs
 -- a tau that is not a time, and too few quotes, are asked about after a clash
 -- an observation that fails check 10 before it
 pub examples :
-    (answerOf (file quarter (replicate 9 (quote 7 0 one))) ≡ ascii "read 9 kept 1\nrefused 3 1 5\n")
-    × (answerOf (file quarter (quote 7 0 one ∷ quote 8 0 one ∷ [])) ≡ ascii "read 2 kept 2\nrefused 3 2 5\n")
-    × (answerOf (file quarter (quote 7 0 one ∷ quote 8 0 one ∷ quote 7 0 one ∷ [])) ≡ ascii "read 3 kept 2\nrefused 3 2 5\n")
-    × (answerOf (file quarter (quote 0 0 one ∷ quote 0xffff_ffff_ffff_ffff 0 one ∷ quote 0 0 one ∷ quote 0xffff_ffff_ffff_ffff 0 one ∷ [])) ≡ ascii "read 4 kept 2\nrefused 3 2 5\n")
-    × (answerOf (file quarter (quote 7 0 one ∷ quote 7 0x8000_0000_0000_0000 one ∷ [])) ≡ ascii "read 2 kept 2\nrefused 44 0 0\n")
-    × (answerOf (file 0 (quote 7 0 one ∷ quote 7 0 quarter ∷ [])) ≡ ascii "read 2 kept 2\nrefused 44 0 0\n")
-    × (answerOf (file quarter (quote 7 0 one ∷ quote 7 0 0 ∷ [])) ≡ ascii "read 2 kept 2\nrefused 10 0 0\n")
+    (answerOf (file quarter-bits (replicate 9 (quote 7 0 one-bits))) ≡ ascii "read 9 kept 1\nrefused 3 1 5\n")
+    × (answerOf (file quarter-bits (quote 7 0 one-bits ∷ quote 8 0 one-bits ∷ [])) ≡ ascii "read 2 kept 2\nrefused 3 2 5\n")
+    × (answerOf (file quarter-bits (quote 7 0 one-bits ∷ quote 8 0 one-bits ∷ quote 7 0 one-bits ∷ [])) ≡ ascii "read 3 kept 2\nrefused 3 2 5\n")
+    × (answerOf (file quarter-bits (quote 0 0 one-bits ∷ quote 0xffff_ffff_ffff_ffff 0 one-bits ∷ quote 0 0 one-bits ∷ quote 0xffff_ffff_ffff_ffff 0 one-bits ∷ [])) ≡ ascii "read 4 kept 2\nrefused 3 2 5\n")
+    × (answerOf (file quarter-bits (quote 7 0 one-bits ∷ quote 7 0x8000_0000_0000_0000 one-bits ∷ [])) ≡ ascii "read 2 kept 2\nrefused 44 0 0\n")
+    × (answerOf (file 0 (quote 7 0 one-bits ∷ quote 7 0 quarter-bits ∷ [])) ≡ ascii "read 2 kept 2\nrefused 44 0 0\n")
+    × (answerOf (file quarter-bits (quote 7 0 one-bits ∷ quote 7 0 0 ∷ [])) ≡ ascii "read 2 kept 2\nrefused 10 0 0\n")
 unfolding
     answerOf
     behindRead

@@ -10,11 +10,11 @@ use lib.ListN.{length, length-append, List·getD-append}
 use lib.Seq.{getD-append-add}
 use borrow.Author.Tests.{eq-eqb}
 use Rattle.laws.specs.Some.{Some}
-use Rattle.laws.proofs.Choices.{off, false-true}
+use Rattle.laws.proofs.Choices.{or-right, off, false-true}
 use Rattle.house.specs.declared.Quote.{Quote}
 use Rattle.house.specs.Repeats.{sameContent, sameQuote, clash, allAgree, among, unrepeated, keptAfter, kept}
-use Rattle.house.specs.When.{nth, Numbered, FirstOfEach, none, dropped, first}
-use Rattle.house.proofs.Once.{same-is, or-right}
+use Rattle.house.specs.When.{nth, Numbered, FirstOfEach, no-more, old-number, new-number}
+use Rattle.house.proofs.Once.{same-is}
 use Rattle.theorems.proofs.TwoContents.{agree-at}
 
 -- ---- records of a list and one more
@@ -36,18 +36,18 @@ last x es q e = (length es, omega (arith, longer es q), ap (λ (e : Quote). e .n
 
 -- none of them has a number that stands before them all
 apart : {es qs firsts : List Quote} → FirstOfEach es qs firsts → (i : ℕ) → i < length firsts → ¬ Numbered (nth firsts i) es
-apart none i l n = absurd (omega arith)
-apart (dropped {q} {es} {qs} {firsts} h f) i l n = apart f i l (earlier (nth firsts i) es q n)
-apart (first h f) zero l n = h n
-apart (first {q} {es} {qs} {firsts} h f) (suc i) l n = apart f i (omega arith) (earlier (nth firsts i) es q n)
+apart no-more i l n = absurd (omega arith)
+apart (old-number {q} {es} {qs} {firsts} h f) i l n = apart f i l (earlier (nth firsts i) es q n)
+apart (new-number h f) zero l n = h n
+apart (new-number {q} {es} {qs} {firsts} h f) (suc i) l n = apart f i (omega arith) (earlier (nth firsts i) es q n)
 
 -- no two of them have one number
 pub all-different : {es qs firsts : List Quote} → FirstOfEach es qs firsts → (i j : ℕ) → i < j → j < length firsts → ¬ (nth firsts i .number ≡ nth firsts j .number)
-all-different none i j l k e = absurd (omega arith)
-all-different (dropped h f) i j l k e = all-different f i j l k e
-all-different (first h f) i zero l k e = absurd (omega arith)
-all-different (first {q} {es} {qs} {firsts} h f) zero (suc j) l k e = apart f j (omega arith) (last (nth firsts j) es q e)
-all-different (first h f) (suc i) (suc j) l k e = all-different f i j (omega arith) (omega arith) e
+all-different no-more i j l k e = absurd (omega arith)
+all-different (old-number h f) i j l k e = all-different f i j l k e
+all-different (new-number h f) i zero l k e = absurd (omega arith)
+all-different (new-number {q} {es} {qs} {firsts} h f) zero (suc j) l k e = apart f j (omega arith) (last (nth firsts j) es q e)
+all-different (new-number h f) (suc i) (suc j) l k e = all-different f i j (omega arith) (omega arith) e
 
 -- ---- what is kept
 
@@ -78,7 +78,7 @@ same-by-number a b c e = go (eqb (a .number) (b .number)) (sameContent a b) (eq-
 
 kept-after : (es qs : List Quote) → allAgree (es ++ qs) ≡ true → FirstOfEach es qs (keptAfter es qs)
 unfolding keptAfter unrepeated
-kept-after es [] h = none
+kept-after es [] h = no-more
 kept-after es (q ∷ qs) h = go (among q es) refl (kept-after (es ++ (q ∷ [])) qs (ap allAgree (append-assoc es (q ∷ []) qs) ∙ h))
   where
     fresh : among q es ≡ false → ¬ Numbered q es
@@ -90,8 +90,8 @@ kept-after es (q ∷ qs) h = go (among q es) refl (kept-after (es ++ (q ∷ []))
         off p (among-at q es (s .0) (s .1) (same-by-number (nth es (s .0)) q c (s .2)))
 
     go : (b : Bool) → among q es ≡ b → FirstOfEach (es ++ (q ∷ [])) qs (keptAfter (es ++ (q ∷ [])) qs) → FirstOfEach es (q ∷ qs) (unrepeated b q ++ keptAfter (es ++ (q ∷ [])) qs)
-    go true p f = let s = among-some q es p in dropped (s .0, s .1, ap (λ (x : Quote). x .number) (same-is (nth es (s .0)) q (s .2))) f
-    go false p f = first (fresh p) f
+    go true p f = let s = among-some q es p in old-number (s .0, s .1, ap (λ (x : Quote). x .number) (same-is (nth es (s .0)) q (s .2))) f
+    go false p f = new-number (fresh p) f
 
 -- no number has two contents: what is kept is the first of each number
 pub kept-by-number : (qs : List Quote) → allAgree qs ≡ true → FirstOfEach [] qs (kept qs)

@@ -11,7 +11,7 @@ use lib.Ieee.{Float}
 use borrow.Author.Tests.{eqb-true, eq-eqb, le-leb, leb-true, not-true, not-false}
 use Rattle.laws.specs.Choice.{unless}
 use Rattle.laws.specs.Some.{Some}
-use Rattle.laws.proofs.Choices.{cond-test, both, split, off, false-true}
+use Rattle.laws.proofs.Choices.{cond-test, both, split, off, past-one, false-true}
 use Rattle.records.specs.declared.FitConfig.{FitConfig}
 use Rattle.records.specs.Settings.{sizesHold}
 use Rattle.records.specs.Answer.{refusedWith}
@@ -90,10 +90,6 @@ some-differ qs s = go (allAgree qs) refl
 
 -- ---- the number that refuses before dropping
 
-past-one : (t : Bool) (n rest : ℕ) → (n ≡ 44 → ⊥) → unless t n rest ≡ 44 → (t ≡ true) × (rest ≡ 44)
-past-one true n rest f h = (refl, h)
-past-one false n rest f h = absurd (f h)
-
 module _ (config : FitConfig) (qs : List Quote) (room slots : ℕ) where
   abbrev When : Type 0
   When = NoneBefore44 config qs room slots × TwoContents qs
@@ -102,9 +98,9 @@ module _ (config : FitConfig) (qs : List Quote) (room slots : ℕ) where
   unfolding intakeNumber
   intake-when h =
       let n = length qs in
-      let x = past-one (leb (n * 4) room && leb n slots) 12 _ (λ e. omega arith) h in
-      let y = past-one (sizesHold n config) 11 _ (λ e. omega arith) (x .1) in
-      let z = past-one (allPass qs) 10 _ (λ e. omega arith) (y .1) in
+      let x = past-one 44 (leb (n * 4) room && leb n slots) 12 _ (λ e. omega arith) h in
+      let y = past-one 44 (sizesHold n config) 11 _ (λ e. omega arith) (x .1) in
+      let z = past-one 44 (allPass qs) 10 _ (λ e. omega arith) (y .1) in
       let p = both (leb (n * 4) room) (leb n slots) (x .0) in
       (((leb-true (n * 4) room (p .0), leb-true n slots (p .1)), y .0, z .0), agree-some qs (last (allAgree qs) (z .1)))
     where
