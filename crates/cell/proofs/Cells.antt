@@ -20,7 +20,7 @@ use Rattle.cell.specs.declared.Limits.{Limits}
 use Rattle.cell.specs.declared.Tried.{Tried}
 use Rattle.cell.specs.declared.Cell.{Cell}
 use Rattle.faces.specs.Faces.{faceAt}
-use Rattle.cell.specs.Cell.{Problem, noTry, tryOf, pickOf, bestOf, cellFrom, chosenFrom, chosenOf, posedOf, fitModel, cellOf}
+use Rattle.cell.specs.Cell.{Problem, noTry, tryOf, updatesOf, pickOf, bestOf, cellFrom, chosenFrom, chosenOf, posedOf, fitModel, cellOf}
 use Rattle.cell.specs.Choice.{goalAt, problemAt, faceTried, Beats, First}
 use Rattle.cell.proofs.Laws.{try-ind}
 
@@ -100,6 +100,13 @@ module _ (o : List Float → Float) (p : Problem) (count : ℕ) where
   abbrev tried : ℕ → Tried
   tried t = tryOf o p (faceAt (p .u) (p .n) t)
 
+  -- the two cells that it comes to
+  abbrev empty-only : Cell
+  empty-only = cellFrom (tried 0) 1 (updatesOf p 1)
+
+  abbrev all-tried : Cell
+  all-tried = cellFrom (bestOf o p count) count (updatesOf p count)
+
   tried-fine : (t : ℕ) → Fine (tried t)
   tried-fine t = try-ind Fine o p (faceAt (p .u) (p .n) t) (λ h. absurd h) (λ x v e h. e)
 
@@ -126,11 +133,11 @@ module _ (o : List Float → Float) (p : Problem) (count : ℕ) where
   unfolding chosenOf chosenFrom cellFrom
   chosen-least = go (tried 0 .some) refl
     where
-      only : (t : ℕ) → t ≡ 0 → tried 0 .some ≡ true → Beats tried (cellFrom (tried 0) 1) t
+      only : (t : ℕ) → t ≡ 0 → tried 0 .some ≡ true → Beats tried empty-only t
       only t e s =
-          subst (Beats tried (cellFrom (tried 0) 1)) (sym e) (record { has = λ h. h; least = λ h. lt-not-self (tried 0 .objective) })
+          subst (Beats tried empty-only) (sym e) (record { has = λ h. h; least = λ h. lt-not-self (tried 0 .objective) })
 
-      go : (b : Bool) → tried 0 .some ≡ b → (t : ℕ) → t < cond b (cellFrom (tried 0) 1) (cellFrom (bestOf o p count) count) .faces → Beats tried (cond b (cellFrom (tried 0) 1) (cellFrom (bestOf o p count) count)) t
+      go : (b : Bool) → tried 0 .some ≡ b → (t : ℕ) → t < cond b empty-only all-tried .faces → Beats tried (cond b empty-only all-tried) t
       go true e t l = only t (omega arith) e
       go false e t l = let g = best-leads .as-good t l in record { has = g .has; least = g .least }
 
@@ -139,11 +146,11 @@ module _ (o : List Float → Float) (p : Problem) (count : ℕ) where
   unfolding chosenOf chosenFrom cellFrom
   chosen-first = go (tried 0 .some)
     where
-      go : (b : Bool) → T (cond b (cellFrom (tried 0) 1) (cellFrom (bestOf o p count) count) .some) → (t : ℕ) × First tried (cond b (cellFrom (tried 0) 1) (cellFrom (bestOf o p count) count)) t
+      go : (b : Bool) → T (cond b empty-only all-tried .some) → (t : ℕ) × First tried (cond b empty-only all-tried) t
       go true h = (0, record { below = omega arith; qualifies = h; is = refl; earlier = λ s l. absurd (omega arith) })
       go false h =
           let w = best-leads .first h in
-          (w .0, record { below = w .1 .below; qualifies = subst (λ (b : Tried). T (b .some)) (w .1 .is) h; is = ap (λ (b : Tried). cellFrom b count) (w .1 .is); earlier = w .1 .earlier })
+          (w .0, record { below = w .1 .below; qualifies = subst (λ (b : Tried). T (b .some)) (w .1 .is) h; is = ap (λ (b : Tried). cellFrom b count (updatesOf p count)) (w .1 .is); earlier = w .1 .earlier })
 
 -- ---- the cell of a model
 

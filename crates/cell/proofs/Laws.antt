@@ -13,7 +13,7 @@ use Rattle.laws.specs.Choice.{unless}
 use Rattle.laws.specs.Floats.{_+f_, _*f_, at, finite, positive}
 use Rattle.laws.proofs.Choices.{if-true, cond-ind, both}
 use Rattle.laws.proofs.Loops.{for-keeps, for-same}
-use Rattle.solver.specs.Solve.{scaleOf, solvedAtScale, underOf, solveOf}
+use Rattle.solver.specs.Solve.{refused, scaleOf, solvedAtScale, underOf, solveOf}
 use Rattle.solver.specs.declared.Solved.{Solved}
 use Rattle.faces.specs.declared.Face.{Face}
 use Rattle.cell.specs.declared.Model.{Model}
@@ -28,9 +28,9 @@ use Rattle.laws.specs.Room.{filledOn}
 use Rattle.laws.proofs.Rooms.{filled-at, filled-length}
 use Rattle.roots.specs.Hypot.{withOneOf}
 use Rattle.cell.specs.Least.{yOf, hOf, withObservation, normalEquations, missOf, objectiveOf}
-use Rattle.cell.specs.Cell.{Problem, kktOf, solutionOf, widened, noTry, valuedOf, metOf, triedOf, tryOf, pickOf, bestOf, chosenOf, problemOf, posedOf, fitModel, cellOf, inRange, noCell, innerOf}
+use Rattle.cell.specs.Cell.{Problem, kktOf, solutionOf, widened, noTry, valuedOf, metOf, triedOf, tryOf, faceUpdates, pickOf, bestOf, chosenOf, problemOf, posedOf, fitModel, cellOf, inRange, noCell, innerOf}
 use Rattle.cell.specs.Lent.{ysOn, hsOn, innerOn}
-use Rattle.cell.specs.Shared.{doubledOf, blockOf, problemIn, emptyScale, Scaled, systemAnswer}
+use Rattle.cell.specs.Shared.{doubledOf, blockOf, sideOf, problemIn, emptyScale, Scaled, systemAnswer}
 
 -- ---- the rows of the observations, computed once
 
@@ -70,26 +70,42 @@ posed-is m n sigma l b g h s e eb eg eh es =
 -- ---- a face's point, and what comes of it
 
 -- where the scale is positive, a face's solution is the answer under the limit that it sets; else there is none
-module _ (o : List Float → Float) (b g h : List Float) (pivot scale slack : Float) (f : Face) (l : f .size ≤ 3) (e : scaleOf (3 + f .size) (kktOf (blockOf b) g 3 f) ≡ scale) where
+module _ (b g h : List Float) (pivot scale slack : Float) (f : Face) (l : f .size ≤ 3) (e : scaleOf (3 + f .size) (kktOf (blockOf b) g 3 f) ≡ scale) where
   some : ltb 0 (3 + f .size) ≡ true
   some = lt-ltb 0 (3 + f .size) (omega arith)
 
   small : leb (3 + f .size) 6 ≡ true
   small = le-leb (3 + f .size) 6 (omega arith)
 
-  try-under : positive scale ≡ true → tryOf o (problemIn b g h pivot slack) f ≡ triedOf o (problemIn b g h (pivot *f scale) slack) f (systemAnswer b g h (pivot *f scale) f)
-  unfolding tryOf triedOf metOf solutionOf solveOf solvedAtScale underOf
-  try-under p = rw (some, small, e, p) refl
+  solution-under : positive scale ≡ true → solutionOf (blockOf b) (sideOf b) g h 3 pivot f ≡ systemAnswer b g h (pivot *f scale) f
+  unfolding solutionOf solveOf solvedAtScale underOf
+  solution-under p = rw (some, small, e, p) refl
 
-  -- r is the candidate under that limit
-  pub try-at :
-      positive scale ≡ true → (r : Point) → triedOf o (problemIn b g h (pivot *f scale) slack) f (systemAnswer b g h (pivot *f scale) f) ≡ unless (r .ok) noTry (valuedOf f (r .x) (o (r .x)))
-      → unless (r .ok) noTry (valuedOf f (r .x) (o (r .x))) ≡ tryOf o (problemIn b g h pivot slack) f
-  try-at p r k = sym k ∙ sym (try-under p)
+  solution-none : positive scale ≡ false → solutionOf (blockOf b) (sideOf b) g h 3 pivot f ≡ refused 0
+  unfolding solutionOf solveOf solvedAtScale
+  solution-none p = rw (small, e, p) refl
 
-  pub try-none : positive scale ≡ false → tryOf o (problemIn b g h pivot slack) f ≡ noTry
-  unfolding tryOf triedOf metOf solutionOf solveOf solvedAtScale
-  try-none p = rw (small, e, p) refl
+  -- so are its updates
+  pub work-under : positive scale ≡ true → {k : ℕ} → k ≡ systemAnswer b g h (pivot *f scale) f .updates → k ≡ faceUpdates (problemIn b g h pivot slack) f
+  work-under p q = q ∙ sym (ap (λ (s : Solved). s .updates) (solution-under p))
+
+  pub work-none : positive scale ≡ false → faceUpdates (problemIn b g h pivot slack) f ≡ 0
+  work-none p = ap (λ (s : Solved). s .updates) (solution-none p)
+
+  module _ (o : List Float → Float) where
+    try-under : positive scale ≡ true → tryOf o (problemIn b g h pivot slack) f ≡ triedOf o (problemIn b g h (pivot *f scale) slack) f (systemAnswer b g h (pivot *f scale) f)
+    unfolding tryOf triedOf metOf
+    try-under p = ap (triedOf o (problemIn b g h pivot slack) f) (solution-under p)
+
+    -- r is the candidate under that limit
+    pub try-at :
+        positive scale ≡ true → (r : Point) → triedOf o (problemIn b g h (pivot *f scale) slack) f (systemAnswer b g h (pivot *f scale) f) ≡ unless (r .ok) noTry (valuedOf f (r .x) (o (r .x)))
+        → unless (r .ok) noTry (valuedOf f (r .x) (o (r .x))) ≡ tryOf o (problemIn b g h pivot slack) f
+    try-at p r k = sym k ∙ sym (try-under p)
+
+    pub try-none : positive scale ≡ false → tryOf o (problemIn b g h pivot slack) f ≡ noTry
+    unfolding tryOf triedOf
+    try-none p = ap (triedOf o (problemIn b g h pivot slack) f) (solution-none p)
 
 -- the empty face has no more than the block, and what every other face has it has as well where it is known by other names
 pub scale-empty : (b g : List Float) → scaleOf 3 (kktOf (blockOf b) g 3 (faceOf [])) ≡ emptyScale b

@@ -1,4 +1,5 @@
 pub mod Laws
 pub mod Cells
+pub mod Work
 pub mod Systems
 pub mod Scaling

@@ -7,7 +7,7 @@ use Prim.Native.Nat.{ℕ, _+_, _*_}
 use lib.Dec.{eqb, leb}
 use lib.ListN.{length, set, replicate}
 use lib.Ieee.{Float, lt}
-use Rattle.laws.specs.Loop.{for}
+use Rattle.laws.specs.Loop.{for, sum}
 use Rattle.laws.specs.Choice.{unless}
 use Rattle.laws.specs.Floats.{_*f_, +0, at, finite}
 use Rattle.solver.specs.Solve.{solveOf}
@@ -73,6 +73,15 @@ triedOf o p f s = unless (s .ok) noTry (metOf o p f (widened (s .x)))
 unfoldable pub tryOf : (List Float → Float) → Problem → Face → Tried
 tryOf o p f = triedOf o p f (solutionOf (p .base) (p .right) (p .g) (p .h) (p .u) (p .pivot) f)
 
+-- ---- the work: how many entries the elimination of a face's system updates, solved or not
+
+abbrev pub faceUpdates : Problem → Face → ℕ
+faceUpdates p f = solutionOf (p .base) (p .right) (p .g) (p .h) (p .u) (p .pivot) f .updates
+
+-- of the first `count` faces together
+unfoldable pub updatesOf : Problem → ℕ → ℕ
+updatesOf p count = sum count (λ t. faceUpdates p (faceAt (p .u) (p .n) t))
+
 -- ---- the best of the faces, in their order
 
 -- the smaller objective wins, the earlier face on a tie
@@ -85,12 +94,12 @@ pickOf t best = cond (wins t best) t best
 unfoldable pub bestOf : (List Float → Float) → Problem → ℕ → Tried
 bestOf o p count = for 0 count (λ t best. pickOf (tryOf o p (faceAt (p .u) (p .n) t)) best) noTry
 
-unfoldable pub cellFrom : Tried → ℕ → Cell
-cellFrom t faces = record { some = t .some; objective = t .objective; x = t .x; active = faceMarks (t .face); faces = faces }
+unfoldable pub cellFrom : Tried → ℕ → ℕ → Cell
+cellFrom t faces updates = record { some = t .some; objective = t .objective; x = t .x; active = faceMarks (t .face); faces = faces; updates = updates }
 
--- where the empty face, tried with the answer e, qualifies, only it is tried
+-- where the empty face, tried with the answer e, qualifies, only it is tried; else all are, and the empty one is no second time
 unfoldable pub chosenFrom : (List Float → Float) → Problem → ℕ → Tried → Cell
-chosenFrom o p count e = cond (e .some) (cellFrom e 1) (cellFrom (bestOf o p count) count)
+chosenFrom o p count e = cond (e .some) (cellFrom e 1 (updatesOf p 1)) (cellFrom (bestOf o p count) count (updatesOf p count))
 
 unfoldable pub chosenOf : (List Float → Float) → Problem → ℕ → Cell
 chosenOf o p count = chosenFrom o p count (tryOf o p (faceAt (p .u) (p .n) 0))
@@ -119,7 +128,7 @@ abbrev pub inRange : List Float → List Float → List Float → Bool
 inRange ks ws weights = leb (length ks) 256 && (eqb (length ws) (length ks) && eqb (length weights) (length ks))
 
 abbrev pub noCell : Cell
-noCell = record { some = false; objective = +0; x = +0 ∷ +0 ∷ +0 ∷ []; active = replicate 7 false; faces = 0 }
+noCell = record { some = false; objective = +0; x = +0 ∷ +0 ∷ +0 ∷ []; active = replicate 7 false; faces = 0; updates = 0 }
 
 -- `inner`; observations out of range give no face, and none is tried
 unfoldable pub innerOf : List Float → List Float → List Float → Limits → Float → Float → Cell

@@ -11,7 +11,7 @@ use Rattle.cell.specs.declared.Tried.{Tried}
 use Rattle.cell.specs.declared.Cell.{Cell}
 use Rattle.faces.specs.Faces.{faceAt}
 use Rattle.cell.specs.Least.{yOf, hOf, normalEquations, objectiveOf}
-use Rattle.cell.specs.Cell.{Problem, tryOf, cellFrom, problemOf}
+use Rattle.cell.specs.Cell.{Problem, tryOf, faceUpdates, cellFrom, problemOf}
 
 -- the objective of the cell (m, sigma), over observations k, w and weights
 abbrev pub goalAt : List Float → List Float → List Float → Float → Float → List Float → Float
@@ -27,6 +27,12 @@ faceTried k ks ws weights l m sigma t =
     let p = problemAt k ks ws weights l m sigma in
     tryOf (goalAt ks ws weights m sigma) p (faceAt (p .u) (p .n) t)
 
+-- and how many entries its elimination updates
+unfoldable pub updatesAt : Model → List Float → List Float → List Float → Limits → Float → Float → ℕ → ℕ
+updatesAt k ks ws weights l m sigma t =
+    let p = problemAt k ks ws weights l m sigma in
+    faceUpdates p (faceAt (p .u) (p .n) t)
+
 -- the cell c is as good as face t of the faces g: where that face qualifies, c has one, and the face's objective is not smaller
 pub record Beats (g : ℕ → Tried) (c : Cell) (t : ℕ) : Type 0 where
   pub has : T (g t .some) → T (c .some)
@@ -36,5 +42,5 @@ pub record Beats (g : ℕ → Tried) (c : Cell) (t : ℕ) : Type 0 where
 pub record First (g : ℕ → Tried) (c : Cell) (t : ℕ) : Type 0 where
   pub below : t < c .faces
   pub qualifies : T (g t .some)
-  pub is : c ≡ cellFrom (g t) (c .faces)
+  pub is : c ≡ cellFrom (g t) (c .faces) (c .updates)
   pub earlier : (s : ℕ) → s < t → T (g s .some) → T (lt (g t .objective) (g s .objective))

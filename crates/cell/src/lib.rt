@@ -12,7 +12,7 @@ ghost use Rattle.laws.specs.Floats.{at};
 ghost use Rattle.faces.specs.Faces.{faceAt};
 ghost use Rattle.polytope.specs.Polytope.{rowsOf};
 ghost use Rattle.cell.specs.Least.{objectiveAt};
-ghost use Rattle.cell.specs.Cell.{tryOf, bestOf, cellFrom, chosenOf, fitModel, posedOf, inRange, innerOf};
+ghost use Rattle.cell.specs.Cell.{tryOf, updatesOf, bestOf, cellFrom, chosenOf, fitModel, posedOf, inRange, innerOf};
 ghost use Rattle.cell.specs.Shared.{problemIn, emptyScale, otherScale, Scaled};
 ghost use Rattle.cell.specs.Lent.{ysOn, hsOn, innerOn};
 use faces::Face;
@@ -49,10 +49,11 @@ pub struct Normal {
     pub c: Line,
 }
 
-// The point of a face, where its system has one.
+// The point of a face, where its system has one, and how many entries of its matrix were updated.
 pub struct Point {
     pub x: [f64; 3],
     pub ok: bool,
+    pub updates: usize,
 }
 
 // A face that was tried: whether it qualifies, its objective, its point and itself.
@@ -63,7 +64,13 @@ pub struct Tried {
     pub face: Face,
 }
 
-// A cell: whether a face qualifies, the best one's objective, point (a, d, c) and constraints, and how many faces were tried.
+// Faces that were tried: the best of them, and how many entries of their matrices were updated. The work stands beside the try, which it does not change.
+pub struct Walked {
+    pub best: Tried,
+    pub updates: usize,
+}
+
+// A cell: whether a face qualifies, the best one's objective, point (a, d, c) and constraints, how many faces were tried, and how many entries of their matrices were updated.
 #[repr(C)]
 pub struct Cell {
     pub some: bool,
@@ -71,6 +78,7 @@ pub struct Cell {
     pub x: [f64; 3],
     pub active: [bool; 7],
     pub faces: usize,
+    pub updates: usize,
 }
 
 // The empty face.
@@ -85,12 +93,15 @@ fn empty(
     pivot: f64,
     scale: f64,
     slack: f64,
-) -> Tried
+) -> Walked
     requires { ⌜ (length (now ws) ≤ 256) × (length (now weights) ≡ length (now ws)) × (scale ≡ emptyScale (now b)) × (now g ≡ rowsOf) ⌝ }
-    ensures { λ r. ⌜ r ≡ tryOf (objectiveAt (now (ys .entry)) (now (hs .entry)) (now (ws .entry)) (now (weights .entry))) (problemIn (now (b .entry)) (now (g .entry)) (now (h .entry)) pivot slack) (faceAt 3 7 0) ⌝ }
+    ensures { λ r. ⌜ (r .best ≡ tryOf (objectiveAt (now (ys .entry)) (now (hs .entry)) (now (ws .entry)) (now (weights .entry))) (problemIn (now (b .entry)) (now (g .entry)) (now (h .entry)) pivot slack) (faceAt 3 7 0)) × (r .updates ≡ updatesOf (problemIn (now (b .entry)) (now (g .entry)) (now (h .entry)) pivot slack) 1) ⌝ }
 {
     if !scales::positive(scale) {
-        return trial::no_try();
+        return Walked {
+            best: trial::no_try(),
+            updates: 0,
+        };
     }
     let f = Face {
         size: 0,
@@ -100,13 +111,19 @@ fn empty(
     };
     let e = trial::candidate(b, g, h, pivot * scale, slack, f);
     if !e.ok {
-        return trial::no_try();
+        return Walked {
+            best: trial::no_try(),
+            updates: e.updates,
+        };
     }
     let v = least::objective(ys, hs, ws, weights, &e.x);
-    trial::judged(trial::no_try(), f, e.x, v)
+    Walked {
+        best: trial::judged(trial::no_try(), f, e.x, v),
+        updates: e.updates,
+    }
 }
 
-// The best of all faces, where the empty one does not qualify. One that is no candidate leaves the best where it stands.
+// The best of all faces, where the empty one, with so many updates, does not qualify. One that is no candidate leaves the best where it stands.
 fn best(
     b: &[f64; 12],
     g: &[f64; 21],
@@ -118,14 +135,20 @@ fn best(
     pivot: f64,
     scale: f64,
     slack: f64,
-) -> Tried
+    first: usize,
+) -> Walked
     requires { ⌜ (length (now ws) ≤ 256) × (length (now weights) ≡ length (now ws)) × Scaled (now b) scale × (now g ≡ rowsOf) ⌝ }
     requires { ⌜ tryOf (objectiveAt (now ys) (now hs) (now ws) (now weights)) (problemIn (now b) (now g) (now h) pivot slack) (faceAt 3 7 0) .some ≡ false ⌝ }
-    ensures { λ r. ⌜ r ≡ bestOf (objectiveAt (now (ys .entry)) (now (hs .entry)) (now (ws .entry)) (now (weights .entry))) (problemIn (now (b .entry)) (now (g .entry)) (now (h .entry)) pivot slack) 64 ⌝ }
+    requires { ⌜ first ≡ updatesOf (problemIn (now b) (now g) (now h) pivot slack) 1 ⌝ }
+    ensures { λ r. ⌜ (r .best ≡ bestOf (objectiveAt (now (ys .entry)) (now (hs .entry)) (now (ws .entry)) (now (weights .entry))) (problemIn (now (b .entry)) (now (g .entry)) (now (h .entry)) pivot slack) 64) × (r .updates ≡ updatesOf (problemIn (now (b .entry)) (now (g .entry)) (now (h .entry)) pivot slack) 64) ⌝ }
 {
     let mut best = trial::no_try();
+    let mut updates = 0;
     if !scales::positive(scale) {
-        return best;
+        return Walked {
+            best,
+            updates: first,
+        };
     }
     let limit = pivot * scale;
     let mut f = Face {
@@ -137,17 +160,22 @@ fn best(
     for t in 1..64usize {
         f = faces::next(f);
         let e = trial::candidate(b, g, h, limit, slack, f);
+        updates = updates + e.updates;
         if e.ok {
             let v = least::objective(ys, hs, ws, weights, &e.x);
             best = trial::judged(best, f, e.x, v);
         }
     }
-    best
+    Walked {
+        best,
+        updates: first + updates,
+    }
 }
 
-fn cell_from(t: Tried, faces: usize) -> Cell
-    ensures { λ r. ⌜ r ≡ cellFrom t faces ⌝ }
+fn cell_from(w: Walked, faces: usize) -> Cell
+    ensures { λ r. ⌜ r ≡ cellFrom (w .best) faces (w .updates) ⌝ }
 {
+    let t = w.best;
     let active = faces::marks(t.face);
     let x = t.x;
     Cell {
@@ -156,6 +184,7 @@ fn cell_from(t: Tried, faces: usize) -> Cell
         x: x,
         active: active,
         faces: faces,
+        updates: w.updates,
     }
 }
 
@@ -176,10 +205,10 @@ fn chosen(
     ensures { λ r. ⌜ r ≡ chosenOf (objectiveAt (now (ys .entry)) (now (hs .entry)) (now (ws .entry)) (now (weights .entry))) (problemIn (now (b .entry)) (now (g .entry)) (now (h .entry)) pivot slack) 64 ⌝ }
 {
     let e = empty(b, g, h, ys, hs, ws, weights, pivot, scale, slack);
-    if e.some {
+    if e.best.some {
         return cell_from(e, 1);
     }
-    let t = best(
+    let all = best(
         b,
         g,
         h,
@@ -190,8 +219,9 @@ fn chosen(
         pivot,
         bits::pick(scale < 1.0, 1.0, scale),
         slack,
+        e.updates,
     );
-    cell_from(t, 64)
+    cell_from(all, 64)
 }
 
 // A cell, with the rows of the observations at hand.
@@ -271,6 +301,7 @@ pub fn inner_on(
         x: [0.0; 3],
         active: [false; 7],
         faces: 0,
+        updates: 0,
     }
 }
 

@@ -137,6 +137,7 @@ pub(crate) fn candidate(
     f: Face,
 ) -> Point
     requires { ⌜ Good 3 7 f × (now g ≡ rowsOf) ⌝ }
+    ensures { λ r. ⌜ r .updates ≡ systemAnswer (now (b .entry)) (now (g .entry)) (now (h .entry)) limit f .updates ⌝ }
     ensures { λ r. ⌜ ((o : List Float → Float) → triedOf o (problemIn (now (b .entry)) (now (g .entry)) (now (h .entry)) limit slack) f (systemAnswer (now (b .entry)) (now (g .entry)) (now (h .entry)) limit f) ≡ unless (r .ok) noTry (valuedOf f (r .x) (o (r .x)))) ⌝ }
 {
     let s = solution(b, g, h, limit, f);
@@ -144,12 +145,17 @@ pub(crate) fn candidate(
         let y = s.x;
         let x = [y[0], y[1], y[2]];
         if polytope::feasible(h, &x, slack) {
-            return Point { x: x, ok: true };
+            return Point {
+                x: x,
+                ok: true,
+                updates: s.updates,
+            };
         }
     }
     Point {
         x: [0.0; 3],
         ok: false,
+        updates: s.updates,
     }
 }
 

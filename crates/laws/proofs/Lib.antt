@@ -1,5 +1,6 @@
 pub mod Choices
 pub mod Loops
+pub mod Sums
 pub mod Somes
 pub mod Order
 pub mod Better

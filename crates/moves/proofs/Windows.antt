@@ -25,7 +25,7 @@ pub recentred-is :
       window = record { m = m; s = ls };
       smallest = s .smallest;
       found = o;
-      counts = record { passes = n .passes; recentres = n .recentres + 1; shrinks = n .shrinks; cells = n .cells; faces = n .faces };
+      counts = record { passes = n .passes; recentres = n .recentres + 1; shrinks = n .shrinks; cells = n .cells; faces = n .faces; updates = n .updates };
     })
     (recentred p s n a o)
 unfolding recentred
@@ -39,7 +39,7 @@ recentred-is p s n a o hm hs m ls e1 e2 e3 e4 =
       window = record { m = f i; s = g i };
       smallest = s .smallest;
       found = o;
-      counts = record { passes = n .passes; recentres = n .recentres + 1; shrinks = n .shrinks; cells = n .cells; faces = n .faces };
+      counts = record { passes = n .passes; recentres = n .recentres + 1; shrinks = n .shrinks; cells = n .cells; faces = n .faces; updates = n .updates };
     }
 
 -- the narrowed window, from the two steps and the two axes
@@ -64,7 +64,7 @@ pub shrunk-is :
       window = w;
       smallest = wide;
       found = o;
-      counts = record { passes = n .passes; recentres = n .recentres; shrinks = k; cells = n .cells; faces = n .faces };
+      counts = record { passes = n .passes; recentres = n .recentres; shrinks = k; cells = n .cells; faces = n .faces; updates = n .updates };
     })
     (shrunk p s n o)
 unfolding shrunk
@@ -79,5 +79,5 @@ shrunk-is p s n o w wide k e1 e2 e3 =
       window = e1 i;
       smallest = f i;
       found = o;
-      counts = record { passes = n .passes; recentres = n .recentres; shrinks = g i; cells = n .cells; faces = n .faces };
+      counts = record { passes = n .passes; recentres = n .recentres; shrinks = g i; cells = n .cells; faces = n .faces; updates = n .updates };
     }

@@ -71,7 +71,7 @@ recentred p s n a o =
       window = record { m = around (a .m) (growOf (a .«m_edge») (s .window .m) (p .«hm_max»)) (p .domain .m); s = around (a .ls) (growOf (a .«s_edge») (s .window .s) (p .«hs_max»)) (p .domain .s) };
       smallest = s .smallest;
       found = o;
-      counts = record { passes = n .passes; recentres = n .recentres + 1; shrinks = n .shrinks; cells = n .cells; faces = n .faces };
+      counts = record { passes = n .passes; recentres = n .recentres + 1; shrinks = n .shrinks; cells = n .cells; faces = n .faces; updates = n .updates };
     }
 
 -- the first step of an axis
@@ -94,7 +94,7 @@ shrunk p s n o =
       window = w;
       smallest = cond less (width (w .m)) (s .smallest);
       found = o;
-      counts = record { passes = n .passes; recentres = n .recentres; shrinks = cond less (n .shrinks + 1) (n .shrinks); cells = n .cells; faces = n .faces };
+      counts = record { passes = n .passes; recentres = n .recentres; shrinks = cond less (n .shrinks + 1) (n .shrinks); cells = n .cells; faces = n .faces; updates = n .updates };
     }
 
 -- the search ends with what it found

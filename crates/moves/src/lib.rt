@@ -21,13 +21,14 @@ pub struct Window {
     pub s: Axis,
 }
 
-// The best cell of a pass so far, with its place, and how many cells and faces the pass has tried.
+// The best cell of a pass so far, with its place, how many cells and faces the pass has tried, and how many entries their eliminations updated.
 pub struct PassBest {
     pub cell: Cell,
     pub i: usize,
     pub j: usize,
     pub cells: usize,
     pub faces: usize,
+    pub updates: usize,
 }
 
 // The best cell of all passes, where it stands, and whether that is an edge of its pass's grid.
@@ -157,6 +158,7 @@ fn recentre(p: Plan, s: Search, n: Counts, a: Place, o: Found) -> Search
             shrinks: n.shrinks,
             cells: n.cells,
             faces: n.faces,
+            updates: n.updates,
         },
     }
 }
@@ -197,6 +199,7 @@ fn shrink(p: Plan, s: Search, n: Counts, o: Found) -> Search
             shrinks: bits::pick_count(less, n.shrinks + 1, n.shrinks),
             cells: n.cells,
             faces: n.faces,
+            updates: n.updates,
         },
     }
 }

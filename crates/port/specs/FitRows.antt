@@ -30,7 +30,7 @@ pub record FittedRows
   pub valued : values ≡ fitValues (fitUnder tau sizes reals ks ws weights residuals capped)
   pub marked : active ≡ fitUnder tau sizes reals ks ws weights residuals capped .active
 
--- read, kept, then the eight counts of the fit
+-- read, kept, then the nine counts of the fit
 abbrev pub outcomeCounts : Outcome → List ℕ
 outcomeCounts o = o .read ∷ o .kept ∷ fitCounts (o .fit)
 

@@ -6,7 +6,7 @@ ghost use Rattle.port.specs.FitRows.{outcomeCounts, FittedRows, QuotesRo
 use outcome::Outcome;
 use records::FitConfig;
 
-fn outcome_counts(o: Outcome) -> [usize; 10]
+fn outcome_counts(o: Outcome) -> [usize; 11]
     ensures { λ r. ⌜ r ≡ outcomeCounts o ⌝ }
 {
     let n = rows::fits::fit_counts(o.fit);
@@ -21,6 +21,7 @@ fn outcome_counts(o: Outcome) -> [usize; 10]
         n[5],
         n[6],
         n[7],
+        n[8],
     ]
 }
 
@@ -44,7 +45,7 @@ pub extern "C" fn port_raw_default_config(sizes: &mut [usize; 4], reals: &mut [f
 }
 
 // The fit: room for four residual numbers and one capped position an observation is lent, and written only by an accepted answer.
-// counts: observed, required, passes, recentres, shrinks, cells, faces, capped; values: rmse_vol, max_rmse_vol, the slice's eight, objective, objective_params, lee_margin, a_margin.
+// counts: observed, required, passes, recentres, shrinks, cells, faces, updates, capped; values: rmse_vol, max_rmse_vol, the slice's eight, objective, objective_params, lee_margin, a_margin.
 #[no_mangle]
 pub extern "C" fn port_raw_fit_slice(
     tau: f64,
@@ -55,7 +56,7 @@ pub extern "C" fn port_raw_fit_slice(
     weight: &[f64],
     residuals: &mut [f64],
     capped: &mut [usize],
-    counts: &mut [usize; 8],
+    counts: &mut [usize; 9],
     values: &mut [f64; 14],
     active: &mut [bool; 7],
 ) -> u32
@@ -73,7 +74,7 @@ pub extern "C" fn port_raw_fit_slice(
 }
 
 // The fit of quotes of 32 bytes each, as in a house file: repeats are dropped, and room is lent for every quote that comes in.
-// counts: read, kept, then the eight of port_raw_fit_slice; values and active as there.
+// counts: read, kept, then the nine of port_raw_fit_slice; values and active as there.
 #[no_mangle]
 pub extern "C" fn port_raw_fit_quotes(
     tau: f64,
@@ -82,7 +83,7 @@ pub extern "C" fn port_raw_fit_quotes(
     quotes: &[u8],
     residuals: &mut [f64],
     capped: &mut [usize],
-    counts: &mut [usize; 10],
+    counts: &mut [usize; 11],
     values: &mut [f64; 14],
     active: &mut [bool; 7],
 ) -> u32

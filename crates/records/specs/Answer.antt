@@ -11,7 +11,7 @@ use Rattle.records.specs.declared.FitAnswer.{FitAnswer}
 
 -- no pass was made
 abbrev pub noCounts : Counts
-noCounts = record { passes = 0; recentres = 0; shrinks = 0; cells = 0; faces = 0 }
+noCounts = record { passes = 0; recentres = 0; shrinks = 0; cells = 0; faces = 0; updates = 0 }
 
 unfoldable pub refusedWith : ℕ → ℕ → ℕ → Float → Float → Counts → FitAnswer
 refusedWith number observed required rmse most counts =

@@ -36,7 +36,7 @@ pub enum Observed {
     Refused(u32),
 }
 
-// What the search did.
+// What the search did; `updates` are the entries that the eliminations of its faces' systems update.
 #[repr(C)]
 pub struct Counts {
     pub passes: usize,
@@ -44,6 +44,7 @@ pub struct Counts {
     pub shrinks: usize,
     pub cells: usize,
     pub faces: usize,
+    pub updates: usize,
 }
 
 // What a fit hands back: a fitted slice and how it was found, or a refusal.
@@ -154,6 +155,7 @@ pub fn no_counts() -> Counts
         shrinks: 0,
         cells: 0,
         faces: 0,
+        updates: 0,
     }
 }
 

@@ -80,15 +80,19 @@ abbrev pub realsRow : FitConfig → List Float
 realsRow c =
     c .«sigma_lo» ∷ c .«sigma_hi» ∷ c .«a_min» ∷ c .«max_rmse_vol» ∷ c .«pivot_tolerance» ∷ c .«feasibility_tolerance» ∷ c .«max_weight_ratio» ∷ []
 
--- observed, required, passes, recentres, shrinks, cells, faces, capped
+-- observed, required, passes, recentres, shrinks, cells, faces, updates, capped
 abbrev pub fitCounts : FitAnswer → List ℕ
 fitCounts a =
-    a .observed ∷ a .required ∷ a .counts .passes ∷ a .counts .recentres ∷ a .counts .shrinks ∷ a .counts .cells ∷ a .counts .faces ∷ a .capped ∷ []
+    a .observed ∷ a .required ∷ a .counts .passes ∷ a .counts .recentres ∷ a .counts .shrinks ∷ a .counts .cells ∷ a .counts .faces ∷ a .counts .updates ∷ a .capped ∷ []
 
 -- rmse_vol, max_rmse_vol, the eight numbers of the slice, objective, objective_params, lee_margin, a_margin
 abbrev pub fitValues : FitAnswer → List Float
 fitValues a =
     a .«rmse_vol» ∷ a .«max_rmse_vol» ∷ (sliceRow (a .slice) ++ (a .objective ∷ a .«objective_params» ∷ a .«lee_margin» ∷ a .«a_margin» ∷ []))
+
+-- faces, updates
+abbrev pub cellCounts : Cell → List ℕ
+cellCounts c = c .faces ∷ c .updates ∷ []
 
 -- the objective, then the three numbers of x
 abbrev pub cellValues : Cell → List Float

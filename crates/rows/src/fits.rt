@@ -34,7 +34,7 @@ pub fn read_limits(row: &[f64; 4]) -> Limits
     }
 }
 
-pub fn fit_counts(a: FitAnswer) -> [usize; 8]
+pub fn fit_counts(a: FitAnswer) -> [usize; 9]
     ensures { λ r. ⌜ r ≡ fitCounts a ⌝ }
 {
     let n = a.counts;
@@ -46,6 +46,7 @@ pub fn fit_counts(a: FitAnswer) -> [usize; 8]
         n.shrinks,
         n.cells,
         n.faces,
+        n.updates,
         a.capped,
     ]
 }

@@ -1,4 +1,3 @@
-pub mod Sums
 pub mod Passes
 pub mod Trail
 pub mod SearchCounts

@@ -18,8 +18,8 @@ use Rattle.moves.specs.declared.Window.{Window}
 use Rattle.moves.specs.declared.PassBest.{PassBest}
 use Rattle.moves.specs.Moves.{improves}
 use Rattle.search.specs.Search.{CellFn, better, consider, noBest, gridRow, passOf, cellAt}
-use Rattle.search.specs.Promised.{sum}
-use Rattle.search.proofs.Sums.{sum-none, sum-next}
+use Rattle.laws.specs.Loop.{sum}
+use Rattle.laws.proofs.Sums.{sum-none, sum-next}
 
 -- ---- the better of two cells
 
@@ -70,6 +70,9 @@ module _ (f : CellFn) (w : Window) (n : ℕ) where
   abbrev pub facesAt : ℕ → ℕ → ℕ
   facesAt i j = cellAt f w n i j .faces
 
+  abbrev pub updatesOn : ℕ → ℕ → ℕ
+  updatesOn i j = cellAt f w n i j .updates
+
   -- the first j cells of row i, after b
   abbrev pub rowTo : ℕ → PassBest → ℕ → PassBest
   rowTo i b j = for 0 j (λ j b. consider b (cellAt f w n i j) i j) b
@@ -78,28 +81,33 @@ module _ (f : CellFn) (w : Window) (n : ℕ) where
   abbrev pub rowsTo : ℕ → PassBest
   rowsTo i = for 0 i (λ i b. gridRow f w n i b) noBest
 
-  pub record CountsTo (b : PassBest) (k m : ℕ) : Type 0 where
+  pub record CountsTo (b : PassBest) (k m v : ℕ) : Type 0 where
     pub cells : b .cells ≡ k
     pub faces : b .faces ≡ m
+    pub updates : b .updates ≡ v
 
-  pub row-counts : (i : ℕ) (b : PassBest) (j : ℕ) → CountsTo (rowTo i b j) (b .cells + j) (b .faces + sum j (facesAt i))
+  pub row-counts : (i : ℕ) (b : PassBest) (j : ℕ) → CountsTo (rowTo i b j) (b .cells + j) (b .faces + sum j (facesAt i)) (b .updates + sum j (updatesOn i))
   unfolding consider
   row-counts i b j =
-      for-ind (λ j b. consider b (cellAt f w n i j) i j) (λ (j : ℕ) (t : PassBest). CountsTo t (b .cells + j) (b .faces + sum j (facesAt i))) j
-      (λ k t l h. let z = sum-next k (facesAt i) in record { cells = omega (arith, h .cells); faces = omega (arith, h .faces, z) }) b
-      (let z = sum-none (facesAt i) in record { cells = omega arith; faces = omega (arith, z) })
+      for-ind (λ j b. consider b (cellAt f w n i j) i j) (λ (j : ℕ) (t : PassBest). CountsTo t (b .cells + j) (b .faces + sum j (facesAt i)) (b .updates + sum j (updatesOn i))) j
+      (λ k t l h.
+      let z = sum-next k (facesAt i) in
+      let y = sum-next k (updatesOn i) in
+      record { cells = omega (arith, h .cells); faces = omega (arith, h .faces, z); updates = omega (arith, h .updates, y) }) b
+      (let z = sum-none (facesAt i) in let y = sum-none (updatesOn i) in record { cells = omega arith; faces = omega (arith, z); updates = omega (arith, y) })
 
-  pub rows-counts : (i : ℕ) → CountsTo (rowsTo i) (i * n) (sum i (λ i. sum n (facesAt i)))
+  pub rows-counts : (i : ℕ) → CountsTo (rowsTo i) (i * n) (sum i (λ i. sum n (facesAt i))) (sum i (λ i. sum n (updatesOn i)))
   unfolding gridRow
   rows-counts i =
-      for-ind (λ i b. gridRow f w n i b) (λ (i : ℕ) (t : PassBest). CountsTo t (i * n) (sum i (λ i. sum n (facesAt i)))) i
+      for-ind (λ i b. gridRow f w n i b) (λ (i : ℕ) (t : PassBest). CountsTo t (i * n) (sum i (λ i. sum n (facesAt i))) (sum i (λ i. sum n (updatesOn i)))) i
       (λ k t l h.
       let r = row-counts k t n in
       let z = sum-next k (λ i. sum n (facesAt i)) in
+      let x = sum-next k (λ i. sum n (updatesOn i)) in
       let y = add-mul k 1 n in
       let o = one-mul n in
-      record { cells = omega (arith, h .cells, r .cells, y, o); faces = omega (arith, h .faces, r .faces, z) }) noBest
-      (let z = sum-none (λ i. sum n (facesAt i)) in let y = zero-mul n in record { cells = omega (arith, y); faces = omega (arith, z) })
+      record { cells = omega (arith, h .cells, r .cells, y, o); faces = omega (arith, h .faces, r .faces, z); updates = omega (arith, h .updates, r .updates, x) }) noBest
+      (let z = sum-none (λ i. sum n (facesAt i)) in let x = sum-none (λ i. sum n (updatesOn i)) in let y = zero-mul n in record { cells = omega (arith, y); faces = omega (arith, z); updates = omega (arith, x) })
 
   -- ---- the best is as good as each cell met, and as what was there before
 

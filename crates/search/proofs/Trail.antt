@@ -7,8 +7,9 @@ use native.Mathlib.Numerals.{add-one}
 use native.Mathlib.Nat.{zero-mul, add-mul, one-mul, not-suc-le-zero, eq-or-lt-of-le}
 use mathlib.Core.Logic.{⊎-elim}
 use lib.Ieee.{lt}
-use Rattle.laws.specs.Loop.{turns}
+use Rattle.laws.specs.Loop.{turns, sum}
 use Rattle.laws.proofs.Loops.{turns-last, below-next}
+use Rattle.laws.proofs.Sums.{sum-none, sum-next}
 use Rattle.laws.proofs.Choices.{cond-ind, cond-test, false-true}
 use Rattle.moves.specs.declared.PassBest.{PassBest}
 use Rattle.records.specs.declared.Counts.{Counts}
@@ -18,10 +19,8 @@ use Rattle.moves.specs.declared.Plan.{Plan}
 use Rattle.moves.specs.declared.Search.{Search}
 use Rattle.moves.specs.Moves.{width, recentred, narrowed, shrunk, stopped, canRecentre, canShrink, movedOf}
 use Rattle.search.specs.Search.{CellFn, passOf, countedOf, searchRefused, stepOf, startOf, passWhileGoing, afterPasses}
-use Rattle.search.specs.Promised.{sum}
 use Rattle.moves.proofs.Cases.{moved-ind, recentre-left, shrink-left}
-use Rattle.search.proofs.Sums.{sum-none, sum-next}
-use Rattle.search.proofs.Passes.{facesAt, rows-counts}
+use Rattle.search.proofs.Passes.{facesAt, updatesOn, rows-counts}
 
 -- ---- the counts after a pass
 
@@ -30,6 +29,7 @@ record Kept (p : Plan) (n c : Counts) : Type 0 where
   passes : c .passes ≡ n .passes
   cells : c .cells ≡ n .cells
   faces : c .faces ≡ n .faces
+  updates : c .updates ≡ n .updates
   recentres : c .recentres ≤ p .«max_recentres»
   shrinks : c .shrinks ≤ p .refinements
 
@@ -38,7 +38,7 @@ module _ (p : Plan) (s : Search) (n : Counts) (r : n .recentres ≤ p .«max_rec
   unfolding recentred
   recentred-kept b a o e =
       let l = recentre-left p s n b a e in
-      record { passes = refl; cells = refl; faces = refl; recentres = omega (arith, l); shrinks = h }
+      record { passes = refl; cells = refl; faces = refl; updates = refl; recentres = omega (arith, l); shrinks = h }
 
   shrunk-kept : (o : Found) → canShrink p s n ≡ true → Kept p n (shrunk p s n o .counts)
   unfolding shrunk
@@ -48,6 +48,7 @@ module _ (p : Plan) (s : Search) (n : Counts) (r : n .recentres ≤ p .«max_rec
         passes = refl;
         cells = refl;
         faces = refl;
+        updates = refl;
         recentres = r;
         shrinks = cond-ind (λ (k : ℕ). k ≤ p .refinements) (lt (width (narrowed p (s .window) o .m)) (s .smallest)) (one-more (n .shrinks) (p .refinements) l) h;
       }
@@ -59,11 +60,11 @@ module _ (p : Plan) (s : Search) (n : Counts) (r : n .recentres ≤ p .«max_rec
   unfolding stopped
   moved-kept b =
       moved-ind (λ (t : Search). Kept p n (t .counts)) p s n b (recentred-kept b _ _) (shrunk-kept _)
-      (record { passes = refl; cells = refl; faces = refl; recentres = r; shrinks = h })
+      (record { passes = refl; cells = refl; faces = refl; updates = refl; recentres = r; shrinks = h })
 
   refused-kept : Kept p n (searchRefused s n .counts)
   unfolding searchRefused
-  refused-kept = record { passes = refl; cells = refl; faces = refl; recentres = r; shrinks = h }
+  refused-kept = record { passes = refl; cells = refl; faces = refl; updates = refl; recentres = r; shrinks = h }
 
 -- ---- pass after pass
 
@@ -101,6 +102,10 @@ module _ (f : CellFn) (p : Plan) where
   abbrev pub passFaces : ℕ → ℕ
   passFaces q = sum (p .n) (λ i. sum (p .n) (λ j. facesAt f (afterPasses f p q .window) (p .n) i j))
 
+  -- the updates of its cells
+  abbrev pub passUpdates : ℕ → ℕ
+  passUpdates q = sum (p .n) (λ i. sum (p .n) (λ j. updatesOn f (afterPasses f p q .window) (p .n) i j))
+
   pub record Trail (q : ℕ) (s : Search) : Type 0 where
     pub few : s .counts .passes ≤ q
     pub on : s .going ≡ true → s .counts .passes ≡ q
@@ -109,6 +114,7 @@ module _ (f : CellFn) (p : Plan) where
     pub same : afterPasses f p (s .counts .passes) ≡ s
     pub cells : s .counts .cells ≡ s .counts .passes * (p .n * p .n)
     pub faces : s .counts .faces ≡ sum (s .counts .passes) passFaces
+    pub updates : s .counts .updates ≡ sum (s .counts .passes) passUpdates
     pub recentres : s .counts .recentres ≤ p .«max_recentres»
     pub shrinks : s .counts .shrinks ≤ p .refinements
 
@@ -130,6 +136,7 @@ module _ (f : CellFn) (p : Plan) where
         same = after-start;
         cells = sym (zero-mul (p .n * p .n));
         faces = sym (sum-none passFaces);
+        updates = sym (sum-none passUpdates);
         recentres = omega arith;
         shrinks = omega arith;
       }
@@ -151,6 +158,7 @@ module _ (f : CellFn) (p : Plan) where
         same = ap (afterPasses f p) z ∙ after-step q g;
         cells = rw (k .passes) (omega (arith, k .cells, b .cells, h .cells, w, o));
         faces = k .faces ∙ ap (λ (c : ℕ). s .counts .faces + c) (b .faces) ∙ ap (λ (c : ℕ). c + passFaces q) (h .faces ∙ ap (λ (c : ℕ). sum c passFaces) e) ∙ sym (sum-next q passFaces) ∙ ap (λ (c : ℕ). sum c passFaces) (sym z);
+        updates = k .updates ∙ ap (λ (c : ℕ). s .counts .updates + c) (b .updates) ∙ ap (λ (c : ℕ). c + passUpdates q) (h .updates ∙ ap (λ (c : ℕ). sum c passUpdates) e) ∙ sym (sum-next q passUpdates) ∙ ap (λ (c : ℕ). sum c passUpdates) (sym z);
         recentres = k .recentres;
         shrinks = k .shrinks;
       }
@@ -166,6 +174,7 @@ module _ (f : CellFn) (p : Plan) where
         same = h .same;
         cells = h .cells;
         faces = h .faces;
+        updates = h .updates;
         recentres = h .recentres;
         shrinks = h .shrinks;
       })

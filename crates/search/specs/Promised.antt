@@ -6,7 +6,7 @@ use mathlib.Core.Bool.{true, false, _||_}
 use Prim.Native.Nat.{ℕ, _+_, _-_, _*_, _≤_, _<_}
 use lib.Dec.{T}
 use lib.Ieee.{Float, lt}
-use Rattle.laws.specs.Loop.{for}
+use Rattle.laws.specs.Loop.{sum}
 use Rattle.laws.specs.Floats.{finite}
 use Rattle.cell.specs.declared.Cell.{Cell}
 use Rattle.cell.specs.declared.Tried.{Tried}
@@ -23,9 +23,16 @@ use Rattle.search.specs.Search.{CellFn, cellAt, afterPasses, limitOf}
 abbrev pub FaceFn : Type 0
 FaceFn = Float → Float → ℕ → Tried
 
--- the cells of f are chosen from the faces of g: each tries the first, or the first `top`; it is as good as each that it tried; and where it has a face, that is one of them and its objective is finite
-pub record ChosenFrom (f : CellFn) (g : FaceFn) (top : ℕ) : Type 0 where
+-- how many entries the elimination of its system updates, whether it is solved or refused
+abbrev pub UpdatesFn : Type 0
+UpdatesFn = Float → Float → ℕ → ℕ
+
+-- the cells of f are chosen from the faces of g: each tries the first, or the first `top`; its updates are those of the faces it tries, by u, and at most `most`;
+-- it is as good as each that it tried; and where it has a face, that is one of them and its objective is finite
+pub record ChosenFrom (f : CellFn) (g : FaceFn) (u : UpdatesFn) (top most : ℕ) : Type 0 where
   pub tries : (m ls : Float) → (f m ls .faces ≡ 1) ⊎ (f m ls .faces ≡ top)
+  pub updates : (m ls : Float) → f m ls .updates ≡ sum (f m ls .faces) (u m ls)
+  pub few : (m ls : Float) → f m ls .updates ≤ most
   pub finite-objective : (m ls : Float) → T (f m ls .some) → finite (f m ls .objective) ≡ true
   pub beats : (m ls : Float) (t : ℕ) → t < f m ls .faces → Beats (g m ls) (f m ls) t
   pub first : (m ls : Float) → T (f m ls .some) → (t : ℕ) × First (g m ls) (f m ls) t
@@ -39,6 +46,10 @@ cellOfPass f p q i j = cellAt f (afterPasses f p q .window) (p .n) i j
 -- face t of that cell, tried
 abbrev pub faceOfPass : CellFn → FaceFn → Plan → ℕ → ℕ → ℕ → ℕ → Tried
 faceOfPass f g p q i j t = g (axisPoint (afterPasses f p q .window .m) (p .n) i) (axisPoint (afterPasses f p q .window .s) (p .n) j) t
+
+-- its updates
+abbrev pub updatesOfPass : CellFn → UpdatesFn → Plan → ℕ → ℕ → ℕ → ℕ → ℕ
+updatesOfPass f u p q i j t = u (axisPoint (afterPasses f p q .window .m) (p .n) i) (axisPoint (afterPasses f p q .window .s) (p .n) j) t
 
 -- face t of the cell (i, j) of pass q is one that the cell tries, and it qualifies
 pub record Qualifies (f : CellFn) (g : FaceFn) (p : Plan) (q i j t : ℕ) : Type 0 where
@@ -63,7 +74,7 @@ pub record ChosenFace (f : CellFn) (g : FaceFn) (p : Plan) (s : Search) : Type 0
   pub made : pass < s .counts .passes
   pub face : Qualifies f g p pass i j t
   -- the cell found has the face's objective, its x and its marks
-  pub is : s .found .cell ≡ cellFrom (faceOfPass f g p pass i j t) (cellOfPass f p pass i j .faces)
+  pub is : s .found .cell ≡ cellFrom (faceOfPass f g p pass i j t) (cellOfPass f p pass i j .faces) (cellOfPass f p pass i j .updates)
   -- and stands at the point (i, j) of that pass's grid
   pub m : s .found .m ≡ axisPoint (afterPasses f p pass .window .m) (p .n) i
   pub ls : s .found .ls ≡ axisPoint (afterPasses f p pass .window .s) (p .n) j
@@ -72,12 +83,8 @@ pub record ChosenFace (f : CellFn) (g : FaceFn) (p : Plan) (s : Search) : Type 0
 
 -- ---- the promise
 
--- g 0 + .. + g (n - 1)
-unfoldable pub sum : ℕ → (ℕ → ℕ) → ℕ
-sum n g = for 0 n (λ i t. t + g i) 0
-
--- of the search s by plan p, with the cells of f, chosen from the faces of g, 1 or `top` in a cell
-pub record Promised (f : CellFn) (g : FaceFn) (top : ℕ) (p : Plan) (s : Search) : Type 0 where
+-- of the search s by plan p, with the cells of f, chosen from the faces of g, 1 or `top` in a cell, with updates by u, at most `most` in a cell
+pub record Promised (f : CellFn) (g : FaceFn) (u : UpdatesFn) (top most : ℕ) (p : Plan) (s : Search) : Type 0 where
   -- at most refinements + 2 x max_recentres + 1 passes
   pub passes : s .counts .passes ≤ p .refinements + 2 * p .«max_recentres» + 1
   -- at most max_recentres recentres
@@ -90,6 +97,10 @@ pub record Promised (f : CellFn) (g : FaceFn) (top : ℕ) (p : Plan) (s : Search
   pub faces : s .counts .faces ≡ sum (s .counts .passes) (λ q. sum (p .n) (λ i. sum (p .n) (λ j. cellOfPass f p q i j .faces)))
   -- and each cell tries 1 or `top`
   pub tries : (q i j : ℕ) → (cellOfPass f p q i j .faces ≡ 1) ⊎ (cellOfPass f p q i j .faces ≡ top)
+  -- the updates are those of each face that is tried, in each cell of each pass
+  pub updates : s .counts .updates ≡ sum (s .counts .passes) (λ q. sum (p .n) (λ i. sum (p .n) (λ j. sum (cellOfPass f p q i j .faces) (updatesOfPass f u p q i j))))
+  -- at most `most` a cell
+  pub few : s .counts .updates ≤ most * s .counts .cells
   -- the search goes on before each pass counted
   pub made : (q : ℕ) → q < s .counts .passes → afterPasses f p q .going ≡ true
   -- it is in the state s after them

@@ -10,3 +10,4 @@ pub record Roomy (p : Plan) (s : Search) : Type 0 where
   pub shrinks : s .counts .shrinks ≤ 1000
   pub cells : s .counts .cells ≤ 195_140_025
   pub faces : s .counts .faces ≤ 12_488_961_600
+  pub updates : s .counts .updates ≤ 670_891_405_950

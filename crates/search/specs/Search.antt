@@ -37,10 +37,11 @@ consider b c i j =
       j = cond (better c (b .cell)) j (b .j);
       cells = b .cells + 1;
       faces = b .faces + c .faces;
+      updates = b .updates + c .updates;
     }
 
 abbrev pub noBest : PassBest
-noBest = record { cell = noCell; i = 0; j = 0; cells = 0; faces = 0 }
+noBest = record { cell = noCell; i = 0; j = 0; cells = 0; faces = 0; updates = 0 }
 
 unfoldable pub gridRow : CellFn → Window → ℕ → ℕ → PassBest → PassBest
 gridRow f w n i b = for 0 n (λ j b. consider b (cellAt f w n i j) i j) b
@@ -52,7 +53,14 @@ passOf f w n = for 0 n (λ i b. gridRow f w n i b) noBest
 
 unfoldable pub countedOf : Counts → PassBest → Counts
 countedOf n b =
-    record { passes = n .passes + 1; recentres = n .recentres; shrinks = n .shrinks; cells = n .cells + b .cells; faces = n .faces + b .faces }
+    record {
+      passes = n .passes + 1;
+      recentres = n .recentres;
+      shrinks = n .shrinks;
+      cells = n .cells + b .cells;
+      faces = n .faces + b .faces;
+      updates = n .updates + b .updates;
+    }
 
 -- the search ends in a refusal
 unfoldable pub searchRefused : Search → Counts → Search

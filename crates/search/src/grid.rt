@@ -49,11 +49,12 @@ fn better_than(c: Cell, b: Cell) -> bool
 
 // The best so far is left where it stands unless the cell wins.
 fn considered(b: PassBest, c: Cell, i: usize, j: usize) -> PassBest
-    requires { ⌜ (b .cells < 2 ^ 60) × (b .faces < 2 ^ 60) × (c .faces < 2 ^ 60) ⌝ }
+    requires { ⌜ (b .cells < 2 ^ 60) × (b .faces < 2 ^ 60) × (c .faces < 2 ^ 60) × (b .updates < 2 ^ 60) × (c .updates < 2 ^ 60) ⌝ }
     ensures { λ r. ⌜ r ≡ consider b c i j ⌝ }
 {
     let cells = b.cells + 1;
     let faces = b.faces + c.faces;
+    let updates = b.updates + c.updates;
     let old = b.cell;
     if better_than(c, old) {
         return PassBest {
@@ -62,6 +63,7 @@ fn considered(b: PassBest, c: Cell, i: usize, j: usize) -> PassBest
             j,
             cells,
             faces,
+            updates,
         };
     }
     PassBest {
@@ -70,6 +72,7 @@ fn considered(b: PassBest, c: Cell, i: usize, j: usize) -> PassBest
         j: b.j,
         cells,
         faces,
+        updates,
     }
 }
 
@@ -87,7 +90,7 @@ fn row(
     i: usize,
     b: PassBest,
 ) -> PassBest
-    requires { ⌜ (n ≤ 255) × (b .cells < 2 ^ 50) × (b .faces < 2 ^ 50) × (now sigmas ≡ sigmasOf (w .s) n) × (length (now ys) ≡ 256) × (length (now hs) ≡ 256) ⌝ }
+    requires { ⌜ (n ≤ 255) × (b .cells < 2 ^ 50) × (b .faces < 2 ^ 50) × (b .updates < 2 ^ 50) × (now sigmas ≡ sigmasOf (w .s) n) × (length (now ys) ≡ 256) × (length (now hs) ≡ 256) ⌝ }
     ensures { λ r. ⌜ (r ≡ gridRow (fitCell (now (ks .entry)) (now (ws .entry)) (now (weights .entry)) l) w n i b) × (length (now (ys .exit)) ≡ 256) × (length (now (hs .exit)) ≡ 256) ⌝ }
 {
     let m = points::linspace_at(w.m.lo, w.m.hi, n, i);
@@ -108,6 +111,7 @@ pub(crate) fn no_cell() -> Cell
         x: [0.0; 3],
         active: [false; 7],
         faces: 0,
+        updates: 0,
     }
 }
 
@@ -130,6 +134,7 @@ pub(crate) fn pass(
         j: 0,
         cells: 0,
         faces: 0,
+        updates: 0,
     };
     let mut sigmas = [0.0; 256];
     let mut ys = [0.0; 256];

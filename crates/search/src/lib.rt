@@ -15,7 +15,7 @@ use moves::Search;
 use records::Counts;
 
 fn counted(n: Counts, b: PassBest) -> Counts
-    requires { ⌜ (n .passes < 2 ^ 60) × (n .cells < 2 ^ 60) × (n .faces < 2 ^ 60) × (b .cells < 2 ^ 60) × (b .faces < 2 ^ 60) ⌝ }
+    requires { ⌜ (n .passes < 2 ^ 60) × (n .cells < 2 ^ 60) × (n .faces < 2 ^ 60) × (n .updates < 2 ^ 60) × (b .cells < 2 ^ 60) × (b .faces < 2 ^ 60) × (b .updates < 2 ^ 60) ⌝ }
     ensures { λ r. ⌜ r ≡ countedOf n b ⌝ }
 {
     Counts {
@@ -24,6 +24,7 @@ fn counted(n: Counts, b: PassBest) -> Counts
         shrinks: n.shrinks,
         cells: n.cells + b.cells,
         faces: n.faces + b.faces,
+        updates: n.updates + b.updates,
     }
 }
 
@@ -72,13 +73,7 @@ fn start(p: Plan) -> Search
             ls: 0.0,
             on_edge: true,
         },
-        counts: Counts {
-            passes: 0,
-            recentres: 0,
-            shrinks: 0,
-            cells: 0,
-            faces: 0,
-        },
+        counts: records::no_counts(),
     }
 }
 

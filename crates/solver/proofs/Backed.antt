@@ -69,7 +69,7 @@ module _ (n o : ℕ) (m rhs t : List Float) (six : n + o ≡ 6) (st : Stepped n 
       w : Float
       w = valueIn t (u .m) (row + o)
 
-      found : (b : Bool) → finite v ≡ b → v ≡ w → s .ok ≡ true → Both n o row (cond b (record { ok = true; x = set (s .x) row v }) refused) (room (finite w) (set (u .m) (row + o) w))
+      found : (b : Bool) → finite v ≡ b → v ≡ w → s .ok ≡ true → Both n o row (cond b (record { ok = true; x = set (s .x) row v; updates = s .updates }) (refused (s .updates))) (room (finite w) (set (u .m) (row + o) w))
       found true f e h =
           record {
             same = sym f ∙ ap finite e;
@@ -87,13 +87,13 @@ module _ (n o : ℕ) (m rhs t : List Float) (six : n + o ≡ 6) (st : Stepped n 
       go false true h k = false-true (sym h ∙ p .same ∙ k)
 
   -- every row
-  all-rows : (x : List Float) → length x ≡ 6 → Both n o 0 (backOf n m rhs) (backIn n t x)
+  all-rows : (x : List Float) (updates : ℕ) → length x ≡ 6 → Both n o 0 (backOf n m rhs updates) (backIn n t x)
   unfolding backOf backIn
-  all-rows x six-x =
+  all-rows x updates six-x =
       let e : n - n ≡ 0 = omega arith in
-      subst (λ (row : ℕ). Both n o row (backOf n m rhs) (backIn n t x)) e
+      subst (λ (row : ℕ). Both n o row (backOf n m rhs updates) (backIn n t x)) e
       (for-both (λ k s. backRowOf n m rhs (n - 1 - k) s) (λ k u. backRowIn t (5 - k) u) (λ k s u. Both n o (n - k) s u) 0 n 0
-      (λ k s u h l p. rw add-zero (step k s u l p)) 0 n (record { ok = true; x = replicate 6 +0 }) (room true x) (omega arith) (omega arith) (omega arith)
+      (λ k s u h l p. rw add-zero (step k s u l p)) 0 n (record { ok = true; x = replicate 6 +0; updates = updates }) (room true x) (omega arith) (omega arith) (omega arith)
       (record { same = refl; plain = length-replicate 6 +0; rows = six-x; values = λ z. none }))
     where
       none : Agree n o (n - 0) (replicate 6 +0) x
@@ -109,7 +109,7 @@ module _ (n o : ℕ) (m rhs t : List Float) (six : n + o ≡ 6) (st : Stepped n 
           subst (λ (q : ℕ). Both n o (n - (k + 1)) (backRowOf n m rhs (n - 1 - k) s) (backRowIn t q u)) d z
 
 -- the whole substitution
-pub backed : (n o : ℕ) (m rhs t x : List Float) → n + o ≡ 6 → length x ≡ 6 → Stepped n o m rhs t → Found n o (backOf n m rhs) (backIn n t x)
-backed n o m rhs t x six six-x st =
-    let b = all-rows n o m rhs t six st x six-x in
+pub backed : (n o : ℕ) (m rhs t x : List Float) (updates : ℕ) → n + o ≡ 6 → length x ≡ 6 → Stepped n o m rhs t → Found n o (backOf n m rhs updates) (backIn n t x)
+backed n o m rhs t x updates six six-x st =
+    let b = all-rows n o m rhs t six st x updates six-x in
     record { same = b .same; values = λ h i l. b .values h i (omega arith) l }

@@ -1,4 +1,4 @@
--- The elimination in six rows of eight does to a system of n unknowns, in the last n rows and columns, what the plain one does to it: they refuse alike, and
+-- The elimination in six rows of eight does to a system of n unknowns, in the last n rows and columns, what the plain one does to it: they refuse alike, count alike, and
 -- agree in all that the substitution back reads. Assumes nothing.
 use mathlib.Core.Path.{_≡_, refl, sym, ap, ap₂, subst, _∙_}
 use mathlib.Core.Bool.{Bool, true, false, cond}
@@ -34,14 +34,14 @@ use Rattle.solver.specs.Solve.{
   columnOf,
   eliminatedOf,
 }
-use Rattle.solver.specs.Rows.{Room, room, spot, pivotIn, swapIn, lessIn, rowIn, clearIn, raisedIn, clearedIn, columnIn, fromIn}
+use Rattle.solver.specs.Rows.{Reduced, room, reduced, spot, pivotIn, swapIn, lessIn, rowIn, clearIn, raisedIn, clearedIn, columnIn, fromIn}
 use Rattle.solver.proofs.Segments.{by-eq, Rewritten, rewritten, Exchanged, exchanged, for-both, turns-skip}
 use Rattle.solver.proofs.Views.{Stands, Stepped}
 
 -- ---- the loops over one row
 
 -- the copy of a row holds its entries
-row-at : (m : List Float) (i j : ℕ) → j < 6 → at (matrixRow m i) j ≡ entry m i j
+pub row-at : (m : List Float) (i j : ℕ) → j < 6 → at (matrixRow m i) j ≡ entry m i j
 unfolding filledOn
 row-at m i j l = filled-at (entry m i) nan 6 j (replicate 6 +0) (omega (arith, length-replicate 6 +0)) l
 
@@ -97,17 +97,20 @@ pub record Live (n o col : ℕ) (m rhs t : List Float) : Type 0 where
   pub entries : (i j : ℕ) → i < n → j < n → min i col ≤ j → entry m i j ≡ spot t (i + o) (j + o)
   pub rights : (i : ℕ) → i < n → at rhs i ≡ spot t (i + o) 6
 
--- and whether it still stands
-pub record Together (n o col : ℕ) (s : System) (u : Room) : Type 0 where
+-- and whether it still stands, and the updates
+pub record Together (n o col : ℕ) (s : System) (u : Reduced) : Type 0 where
   pub ok : s .ok ≡ u .ok
+  pub updates : s .updates ≡ u .updates
   pub live : s .ok ≡ true → Live n o col (s .m) (s .rhs) (u .m)
 
 -- what they share while the rows below col are cleared, those from row on still to do; the values are the pivot's row
-pub record Clearing (n o col : ℕ) (values : List Float) (row : ℕ) (s : System) (t : List Float) : Type 0 where
+pub record Clearing (n o col : ℕ) (values : List Float) (row : ℕ) (s : System) (u : Reduced) : Type 0 where
   pub ok : s .ok ≡ true
-  pub live : Live n o (col + 1) (s .m) (s .rhs) t
-  pub rest : (i : ℕ) → row ≤ i → i < n → entry (s .m) i col ≡ spot t (i + o) (col + o)
-  pub pivot : (j : ℕ) → col ≤ j → j < n → at values j ≡ spot t (col + o) (j + o)
+  pub stands : u .ok ≡ true
+  pub updates : s .updates ≡ u .updates
+  pub live : Live n o (col + 1) (s .m) (s .rhs) (u .m)
+  pub rest : (i : ℕ) → row ≤ i → i < n → entry (s .m) i col ≡ spot (u .m) (i + o) (col + o)
+  pub pivot : (j : ℕ) → col ≤ j → j < n → at values j ≡ spot (u .m) (col + o) (j + o)
 
 -- what holds of both arms holds of two choices by one test
 cond-both : {S T : Type 0} (P : S → T → Type 0) (b : Bool) {x y : S} {z w : T} → P x z → P y w → P (cond b x y) (cond b z w)
@@ -170,11 +173,14 @@ module _ (n o : ℕ) (six : n + o ≡ 6) (col : ℕ) (below : col < n) where
       pr = omega (arith, w .right)
 
   -- a row is cleared, whatever the factor
-  row-clear : (values : List Float) (row : ℕ) (φ : Float) (s : System) (t : List Float) → col + 1 ≤ row → row < n → Clearing n o col values row s t
-      → Clearing n o col values (row + 1) (after (s .ok) (minusOf n col values row φ (s .m)) (set (s .rhs) row (at (s .rhs) row -f φ *f at (s .rhs) col))) (lessIn (col + o) (row + o) φ t)
-  row-clear values row φ s t c d w =
+  row-clear : (values : List Float) (row : ℕ) (φ : Float) (s : System) (u : Reduced) → col + 1 ≤ row → row < n → Clearing n o col values row s u
+      → Clearing n o col values (row + 1) (after (s .ok) (minusOf n col values row φ (s .m)) (set (s .rhs) row (at (s .rhs) row -f φ *f at (s .rhs) col)) (s .updates + (n - col)))
+      (reduced (u .ok) (lessIn (col + o) (row + o) φ (u .m)) (u .updates + (6 - (col + o))))
+  row-clear values row φ s u c d w =
       record {
         ok = w .ok;
+        stands = w .stands;
+        updates = omega (arith, w .updates);
         live =
             record {
               size = M .size ∙ l .size;
@@ -195,6 +201,9 @@ module _ (n o : ℕ) (six : n + o ≡ 6) (col : ℕ) (below : col < n) where
         pivot = λ j a b. w .pivot j a b ∙ sym (wide-kept col (j + o) (omega arith) (λ e. omega arith));
       }
     where
+      t : List Float
+      t = u .m
+
       l : Live n o (col + 1) (s .m) (s .rhs) t
       l = w .live
 
@@ -211,74 +220,76 @@ module _ (n o : ℕ) (six : n + o ≡ 6) (col : ℕ) (below : col < n) where
       wide-kept i j a ne = Q .outside ((i + o) * 8 + j) (λ k g h e. ne (omega arith))
 
   -- one row of both forms
-  row-same : (values : List Float) (row : ℕ) (φ : Float) (s : System) (t : List Float) → col + 1 ≤ row → row < n → Clearing n o col values row s t
-      → Clearing n o col values (row + 1) (rowDone n col values row φ s) (rowIn (col + o) (row + o) φ t)
+  row-same : (values : List Float) (row : ℕ) (φ : Float) (s : System) (u : Reduced) → col + 1 ≤ row → row < n → Clearing n o col values row s u
+      → Clearing n o col values (row + 1) (rowDone n col values row φ s) (rowIn (col + o) (row + o) φ u)
   unfolding rowDone rowIn
-  row-same values row φ s t c d w =
+  row-same values row φ s u c d w =
       cond-both (Clearing n o col values (row + 1)) (eq φ +0)
-      (record { ok = w .ok; live = w .live; rest = λ i a b. w .rest i (omega arith) b; pivot = w .pivot })
-      (row-clear values row φ s t c d w)
+      (record { ok = w .ok; stands = w .stands; updates = w .updates; live = w .live; rest = λ i a b. w .rest i (omega arith) b; pivot = w .pivot })
+      (row-clear values row φ s u c d w)
 
   -- all rows below col
-  below-same : (values : List Float) (s : System) (t : List Float) → Clearing n o col values (col + 1) s t
-      → Clearing n o col values n (belowOf n col values s) (clearIn (col + o) t)
+  below-same : (values : List Float) (s : System) (u : Reduced) → Clearing n o col values (col + 1) s u
+      → Clearing n o col values n (belowOf n col values s) (clearIn (col + o) u)
   unfolding belowOf clearIn
-  below-same values s t w =
-      for-both (λ row s. rowDone n col values row (factorOf col values row (s .m)) s) (λ row t. rowIn (col + o) row (spot t row (col + o) /f spot t (col + o) (col + o)) t)
+  below-same values s u w =
+      for-both (λ row s. rowDone n col values row (factorOf col values row (s .m)) s) (λ row u. rowIn (col + o) row (spot (u .m) row (col + o) /f spot (u .m) (col + o) (col + o)) u)
       (Clearing n o col values) (col + 1) n o
-      (λ row s t c d w.
-      subst (λ (φ : Float). Clearing n o col values (row + 1) (rowDone n col values row (factorOf col values row (s .m)) s) (rowIn (col + o) (row + o) φ t))
+      (λ row s u c d w.
+      subst (λ (φ : Float). Clearing n o col values (row + 1) (rowDone n col values row (factorOf col values row (s .m)) s) (rowIn (col + o) (row + o) φ u))
       (ap₂ _/f_ (w .rest row (omega arith) d) (w .pivot col (omega arith) below))
-      (row-same values row (factorOf col values row (s .m)) s t c d w))
-      (col + o + 1) 6 s t (omega arith) (omega arith) (omega arith) w
+      (row-same values row (factorOf col values row (s .m)) s u c d w))
+      (col + o + 1) 6 s u (omega arith) (omega arith) (omega arith) w
 
   -- the rows have changed places, and those below are to be cleared
-  clearing-starts : (p : ℕ) (s : System) (t : List Float) → s .ok ≡ true → col ≤ p → p < n → Live n o col (s .m) (s .rhs) t
-      → Clearing n o col (matrixRow (swapRows (s .m) col p) col) (col + 1) (swapped s col p) (swapIn (col + o) (p + o) t)
-  clearing-starts p s t e c d w =
+  clearing-starts : (p : ℕ) (s : System) (t : List Float) (k : ℕ) → s .ok ≡ true → s .updates ≡ k → col ≤ p → p < n → Live n o col (s .m) (s .rhs) t
+      → Clearing n o col (matrixRow (swapRows (s .m) col p) col) (col + 1) (swapped s col p) (reduced true (swapIn (col + o) (p + o) t) k)
+  clearing-starts p s t k e f c d w =
       let l : Live n o col (swapRows (s .m) col p) (exchange (s .rhs) col p) (swapIn (col + o) (p + o) t) = swap-live p (s .m) (s .rhs) t c d w in
       record {
         ok = e;
+        stands = refl;
+        updates = f;
         live = record { size = l .size; right = l .right; wide = l .wide; entries = λ i j a b h. l .entries i j a b (omega arith); rights = l .rights };
         rest = λ i a b. l .entries i col b below (omega arith);
         pivot = λ j a b. row-at (swapRows (s .m) col p) col j (omega arith) ∙ l .entries col j below b (omega arith);
       }
 
   -- the pivot is in row p: both refuse, or both go on
-  raised-same : (p : ℕ) (s : System) (t : List Float) (b c : Bool) → b ≡ c → s .ok ≡ true → col ≤ p → p < n → Live n o col (s .m) (s .rhs) t
-      → Together n o (col + 1) (cond b (after false (s .m) (s .rhs)) (belowOf n col (matrixRow (swapRows (s .m) col p) col) (swapped s col p)))
-      (clearedIn (col + o) (cond c (room false t) (room true (swapIn (col + o) (p + o) t))))
+  raised-same : (p : ℕ) (s : System) (t : List Float) (k : ℕ) (b c : Bool) → b ≡ c → s .ok ≡ true → s .updates ≡ k → col ≤ p → p < n → Live n o col (s .m) (s .rhs) t
+      → Together n o (col + 1) (cond b (after false (s .m) (s .rhs) (s .updates)) (belowOf n col (matrixRow (swapRows (s .m) col p) col) (swapped s col p)))
+      (clearedIn (col + o) (cond c (room false t) (room true (swapIn (col + o) (p + o) t))) k)
   unfolding clearedIn
-  raised-same p s t true true h e c d w = record { ok = refl; live = λ k. false-true k }
-  raised-same p s t false false h e c d w =
-      let k : Clearing n o col (matrixRow (swapRows (s .m) col p) col) n (belowOf n col (matrixRow (swapRows (s .m) col p) col) (swapped s col p)) (clearIn (col + o) (swapIn (col + o) (p + o) t)) =
-      below-same (matrixRow (swapRows (s .m) col p) col) (swapped s col p) (swapIn (col + o) (p + o) t) (clearing-starts p s t e c d w) in
-      record { ok = k .ok; live = λ q. k .live }
-  raised-same p s t true false h e c d w = false-true (sym h)
-  raised-same p s t false true h e c d w = false-true h
+  raised-same p s t k true true h e f c d w = record { ok = refl; updates = f; live = λ z. false-true z }
+  raised-same p s t k false false h e f c d w =
+      let z : Clearing n o col (matrixRow (swapRows (s .m) col p) col) n (belowOf n col (matrixRow (swapRows (s .m) col p) col) (swapped s col p)) (clearIn (col + o) (reduced true (swapIn (col + o) (p + o) t) k)) =
+      below-same (matrixRow (swapRows (s .m) col p) col) (swapped s col p) (reduced true (swapIn (col + o) (p + o) t) k) (clearing-starts p s t k e f c d w) in
+      record { ok = z .ok ∙ sym (z .stands); updates = z .updates; live = λ q. z .live }
+  raised-same p s t k true false h e f c d w = false-true (sym h)
+  raised-same p s t k false true h e f c d w = false-true h
 
   -- the pivot is found: both refuse, or both go on
-  pivoted-same : (limit : Float) (s : System) (t : List Float) → s .ok ≡ true → Live n o col (s .m) (s .rhs) t
-      → Together n o (col + 1) (pivoted n limit col (pivotRowOf n (s .m) col) s) (clearedIn (col + o) (raisedIn limit (col + o) (pivotIn (col + o) t) t))
+  pivoted-same : (limit : Float) (s : System) (t : List Float) (k : ℕ) → s .ok ≡ true → s .updates ≡ k → Live n o col (s .m) (s .rhs) t
+      → Together n o (col + 1) (pivoted n limit col (pivotRowOf n (s .m) col) s) (clearedIn (col + o) (raisedIn limit (col + o) (pivotIn (col + o) t) t) k)
   unfolding pivoted raisedIn
-  pivoted-same limit s t e w =
+  pivoted-same limit s t k e f w =
       let p : ℕ = pivotRowOf n (s .m) col in
-      let k : (p + o ≡ pivotIn (col + o) t) × (col ≤ p) × (p < n) = pivot-same (s .m) (s .rhs) t w in
-      subst (λ (q : ℕ). Together n o (col + 1) (pivoted n limit col (pivotRowOf n (s .m) col) s) (clearedIn (col + o) (raisedIn limit (col + o) q t))) (k .0)
-      (raised-same p s t (le (absOf (entry (s .m) p col)) limit) (le (absOf (spot t (p + o) (col + o))) limit)
-      (ap (λ (x : Float). le (absOf x) limit) (w .entries p col (k .2) below (omega arith))) e (k .1) (k .2) w)
+      let z : (p + o ≡ pivotIn (col + o) t) × (col ≤ p) × (p < n) = pivot-same (s .m) (s .rhs) t w in
+      subst (λ (q : ℕ). Together n o (col + 1) (pivoted n limit col (pivotRowOf n (s .m) col) s) (clearedIn (col + o) (raisedIn limit (col + o) q t) k)) (z .0)
+      (raised-same p s t k (le (absOf (entry (s .m) p col)) limit) (le (absOf (spot t (p + o) (col + o))) limit)
+      (ap (λ (x : Float). le (absOf x) limit) (w .entries p col (z .2) below (omega arith))) e f (z .1) (z .2) w)
 
   -- a system that stands has its column done, a refused one is passed on
-  standing-same : (limit : Float) (s : System) (u : Room) (b c : Bool) → b ≡ c → s .ok ≡ b → Together n o col s u
+  standing-same : (limit : Float) (s : System) (u : Reduced) (b c : Bool) → b ≡ c → s .ok ≡ b → Together n o col s u
       → Together n o (col + 1) (cond b (pivoted n limit col (pivotRowOf n (s .m) col) s) s)
-      (cond c (clearedIn (col + o) (raisedIn limit (col + o) (pivotIn (col + o) (u .m)) (u .m))) u)
-  standing-same limit s u true true h e w = pivoted-same limit s (u .m) e (w .live e)
-  standing-same limit s u false false h e w = record { ok = w .ok; live = λ k. false-true (sym e ∙ k) }
+      (cond c (clearedIn (col + o) (raisedIn limit (col + o) (pivotIn (col + o) (u .m)) (u .m)) (u .updates)) u)
+  standing-same limit s u true true h e w = pivoted-same limit s (u .m) (u .updates) e (w .updates) (w .live e)
+  standing-same limit s u false false h e w = record { ok = w .ok; updates = w .updates; live = λ k. false-true (sym e ∙ k) }
   standing-same limit s u true false h e w = false-true (sym h)
   standing-same limit s u false true h e w = false-true h
 
   -- one column of both forms
-  column-same : (limit : Float) (s : System) (u : Room) → Together n o col s u
+  column-same : (limit : Float) (s : System) (u : Reduced) → Together n o col s u
       → Together n o (col + 1) (columnOf n limit col s) (cond (leb 6 (n + (col + o))) (columnIn limit (col + o) u) u)
   unfolding columnOf columnIn
   column-same limit s u w =
@@ -286,10 +297,10 @@ module _ (n o : ℕ) (six : n + o ≡ 6) (col : ℕ) (below : col < n) where
       (standing-same limit s u (s .ok) (u .ok) (w .ok) refl w)
 
 -- the columns before the system's own are passed over
-passed-over : (n o : ℕ) (limit : Float) (u : Room) → n + o ≡ 6 → fromIn 0 n limit u ≡ for o 6 (λ col s. cond (leb 6 (n + col)) (columnIn limit col s) s) u
+passed-over : (n o : ℕ) (limit : Float) (u : Reduced) → n + o ≡ 6 → fromIn 0 n limit u ≡ for o 6 (λ col s. cond (leb 6 (n + col)) (columnIn limit col s) s) u
 unfolding fromIn
 passed-over n o limit u six =
-    let f : ℕ → Room → Room = λ col s. cond (leb 6 (n + col)) (columnIn limit col s) s in
+    let f : ℕ → Reduced → Reduced = λ col s. cond (leb 6 (n + col)) (columnIn limit col s) s in
     let e : 6 - 0 ≡ o + (6 - o) = omega arith in
     let d : 0 + o ≡ o = omega arith in
     ap (λ (k : ℕ). turns f k 0 u) e
@@ -298,13 +309,14 @@ passed-over n o limit u six =
 
 -- ---- the whole
 
--- the two forms of an eliminated system: refused alike, and the same in what counts
-pub record Same (n o : ℕ) (s : System) (u : Room) : Type 0 where
+-- the two forms of an eliminated system: refused alike, as many updates, and the same in what is read later
+pub record Same (n o : ℕ) (s : System) (u : Reduced) : Type 0 where
   pub ok : s .ok ≡ u .ok
+  pub updates : s .updates ≡ u .updates
   pub stepped : s .ok ≡ true → Stepped n o (s .m) (s .rhs) (u .m)
 
 -- all columns of both forms
-columns-same : (n o : ℕ) (limit : Float) (s : System) (u : Room) → n + o ≡ 6 → Together n o 0 s u
+columns-same : (n o : ℕ) (limit : Float) (s : System) (u : Reduced) → n + o ≡ 6 → Together n o 0 s u
     → Together n o n (eliminatedOf n limit s) (for o 6 (λ col s. cond (leb 6 (n + col)) (columnIn limit col s) s) u)
 unfolding eliminatedOf
 columns-same n o limit s u six w =
@@ -313,15 +325,16 @@ columns-same n o limit s u six w =
 
 -- the elimination in six rows of eight is the plain one
 pub eliminated : (n o : ℕ) (limit : Float) (m rhs t : List Float) → n + o ≡ 6 → 0 < n → length m ≡ 36 → length rhs ≡ 6 → length t ≡ 48 → Stands n o m rhs t
-    → Same n o (eliminatedOf n limit (standing m rhs)) (fromIn 0 n limit (room true t))
+    → Same n o (eliminatedOf n limit (standing m rhs)) (fromIn 0 n limit (reduced true t 0))
 eliminated n o limit m rhs t six pos a b c w =
-    subst (Same n o (eliminatedOf n limit (standing m rhs))) (sym (passed-over n o limit (room true t) six))
+    subst (Same n o (eliminatedOf n limit (standing m rhs))) (sym (passed-over n o limit (reduced true t 0) six))
     (record {
       ok = k .ok;
+      updates = k .updates;
       stepped = λ e. record { entries = λ i j p q. k .live e .entries i j (omega arith) q (omega arith); rights = k .live e .rights };
     })
   where
-    k : Together n o n (eliminatedOf n limit (standing m rhs)) (for o 6 (λ col s. cond (leb 6 (n + col)) (columnIn limit col s) s) (room true t))
+    k : Together n o n (eliminatedOf n limit (standing m rhs)) (for o 6 (λ col s. cond (leb 6 (n + col)) (columnIn limit col s) s) (reduced true t 0))
     k =
-        columns-same n o limit (standing m rhs) (room true t) six
-        (record { ok = refl; live = λ e. record { size = a; right = b; wide = c; entries = λ i j p q l. w .entries i j p q; rights = w .rights } })
+        columns-same n o limit (standing m rhs) (reduced true t 0) six
+        (record { ok = refl; updates = refl; live = λ e. record { size = a; right = b; wide = c; entries = λ i j p q l. w .entries i j p q; rights = w .rights } })

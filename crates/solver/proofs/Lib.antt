@@ -6,5 +6,6 @@ pub mod Same
 pub mod Segments
 pub mod Solutions
 pub mod Steps
+pub mod Updates
 pub mod Views
 pub mod Whole

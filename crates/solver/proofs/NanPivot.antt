@@ -1,4 +1,4 @@
--- A NaN pivot passes the test, the elimination goes on, and no solution comes out. Assumes nothing.
+-- A NaN pivot passes the test, the elimination goes on and counts every row below, and no solution comes out. Assumes nothing.
 -- Why none comes out: the NaN stands on the diagonal, later columns change only the rows below it, and in the substitution back its row's value is something over a NaN.
 use mathlib.Core.Path.{_≡_, refl, sym, ap, subst, _∙_}
 use mathlib.Core.Bool.{Bool, true, false, _&&_, cond}
@@ -15,6 +15,7 @@ use Rattle.laws.specs.Floats.{_-f_, _*f_, _/f_, +0, at, absOf, finite, positive
 use Rattle.laws.proofs.Choices.{false-true, if-true, if-false, cond-ind, cond-test}
 use Rattle.laws.proofs.Floats.{is-nan}
 use Rattle.laws.proofs.Loops.{for-ind, for-keeps, none-yet, one-more}
+use Rattle.laws.proofs.Sums.{for-adds}
 use Rattle.solver.specs.declared.Solved.{Solved}
 use Rattle.solver.specs.Solve.{
   System,
@@ -47,6 +48,7 @@ use Rattle.solver.specs.Solve.{
   solveOf,
 }
 use Rattle.solver.proofs.Segments.{by-eq}
+use Rattle.solver.proofs.Eliminated.{row-at}
 use Rattle.solver.proofs.Solutions.{eliminated-sound}
 use Rattle.solver.proofs.Placed.{none-found}
 use Rattle.solver.proofs.Whole.{sized}
@@ -155,6 +157,29 @@ pivot-from n col m =
     loop-keeps (λ (p : ℕ). col ≤ p) (λ i p. cond (ranked (absOf (entry m p col)) (absOf (entry m i col))) i p) (col + 1) n
     (λ i c d p w. cond-ind (λ (p : ℕ). col ≤ p) (ranked (absOf (entry m p col)) (absOf (entry m i col))) (omega arith) w) col (omega arith)
 
+-- every row below a NaN pivot has a factor that is a NaN, so that all its entries from the pivot's column on are updated
+below-counts : (n col : ℕ) (values : List Float) (s : System) → isNan (at values col) ≡ true → belowOf n col values s .updates ≡ s .updates + (n - (col + 1)) * (n - col)
+unfolding belowOf rowDone div eq
+below-counts n col values s h =
+    for-adds (λ (t : System). t .updates) (λ row t. rowDone n col values row (factorOf col values row (t .m)) t) (col + 1) n (n - col)
+    (λ row t l. sym (ap (λ (u : System). u .updates) (if-false t (no-zero (entry (t .m) row col)) refl))) s
+  where
+    no-zero : (x : Float) → eq (x /f at values col) +0 ≡ false
+    no-zero x = ap (λ (y : Float). eq (x /f y) +0) (is-nan (at values col) h) ∙ go x
+      where
+        go : (x : Float) → eq (x /f nan) +0 ≡ false
+        go nan = refl
+        go (inf s) = refl
+        go (fin s m e) = refl
+
+-- a NaN pivot counts: n - col entries in each row below it
+pub nan-pivot-counts : (n : ℕ) (limit : Float) (col : ℕ) (s : System) → col < 6 → s .ok ≡ true → isNan (pivotOf n (s .m) col) ≡ true
+    → columnOf n limit col s .updates ≡ s .updates + (n - (col + 1)) * (n - col)
+nan-pivot-counts n limit col s c stands h =
+    let p = pivotRowOf n (s .m) col in
+    let up = ap isNan (row-at (swapRows (s .m) col p) col col c) ∙ swap-brings col p (s .m) c (pivot-from n col (s .m)) h in
+    ap (λ (t : System). t .updates) (nan-pivot-goes-on n limit col s stands h) ∙ below-counts n col (matrixRow (swapRows (s .m) col p) col) (swapped s col p) up
+
 -- where the system stands, place k holds a NaN
 abbrev Marred : ℕ → System → Type 0
 Marred k s = s .ok ≡ true → NanAt k (s .m)
@@ -215,44 +240,44 @@ row-stops : (n : ℕ) (m rhs : List Float) (row : ℕ) (t : Solved) → NanAt (r
 unfolding backRowOf withValue
 row-stops n m rhs row t h =
     cond-test (λ (t : Solved). t .ok ≡ false) (t .ok)
-    (λ stands. sym (ap (λ (t : Solved). t .ok) (if-false (record { ok = true; x = set (t .x) row _ }) (over-nan (at rhs row -f rightSum n m (t .x) row) (entry m row row) h) refl))) (λ fallen. fallen)
+    (λ stands. sym (ap (λ (t : Solved). t .ok) (if-false (record { ok = true; x = set (t .x) row _; updates = t .updates }) (over-nan (at rhs row -f rightSum n m (t .x) row) (entry m row row) h) refl))) (λ fallen. fallen)
 
 -- and a refusal is passed on
 row-fallen : (n : ℕ) (m rhs : List Float) (row : ℕ) (t : Solved) → t .ok ≡ false → backRowOf n m rhs row t .ok ≡ false
 unfolding backRowOf
 row-fallen n m rhs row t fallen = sym (ap (λ (t : Solved). t .ok) (if-false _ fallen refl)) ∙ fallen
 
-back-stops : (n : ℕ) (m rhs : List Float) (row : ℕ) → row < n → NanAt (row * 6 + row) m → backOf n m rhs .ok ≡ false
+back-stops : (n : ℕ) (m rhs : List Float) (updates row : ℕ) → row < n → NanAt (row * 6 + row) m → backOf n m rhs updates .ok ≡ false
 unfolding backOf
-back-stops n m rhs row l h =
+back-stops n m rhs updates row l h =
     for-ind (λ k t. backRowOf n m rhs (n - 1 - k) t) (λ (k : ℕ) (t : Solved). n - 1 - row < k → t .ok ≡ false) n
     (λ k t d w q. by-eq k (n - 1 - row)
     (λ e. let r : n - 1 - k ≡ row = omega arith in row-stops n m rhs (n - 1 - k) t (rw r h))
-    (λ ne. row-fallen n m rhs (n - 1 - k) t (w (omega arith)))) (record { ok = true; x = replicate 6 +0 }) (λ q. absurd (omega arith)) (omega arith)
+    (λ ne. row-fallen n m rhs (n - 1 - k) t (w (omega arith)))) (record { ok = true; x = replicate 6 +0; updates = updates }) (λ q. absurd (omega arith)) (omega arith)
 
 -- ---- the whole
 
 -- a NaN pivot in any of the n columns: no solution
 none : (n : ℕ) (limit : Float) (m rhs : List Float) (col : ℕ) → n ≤ 6 → col < n → isNan (pivotOf n (afterColumns n limit col (standing m rhs) .m) col) ≡ true
-    → backIf n (eliminatedOf n limit (standing m rhs)) ≡ refused
+    → backIf n (eliminatedOf n limit (standing m rhs)) ≡ refused (backIf n (eliminatedOf n limit (standing m rhs)) .updates)
 unfolding backIf
 none n limit m rhs col six c h = sym (none-found n (backIf n (eliminatedOf n limit (standing m rhs))) (eliminated-sound n (eliminatedOf n limit (standing m rhs)) six) (stops (eliminatedOf n limit (standing m rhs)) (marred n limit col (standing m rhs) six c h)))
   where
     stops : (s : System) → Marred (col * 6 + col) s → backIf n s .ok ≡ false
-    stops s w = cond-test (λ (t : Solved). t .ok ≡ false) (s .ok) (λ stands. back-stops n (s .m) (s .rhs) col c (w stands)) (λ fallen. refl)
+    stops s w = cond-test (λ (t : Solved). t .ok ≡ false) (s .ok) (λ stands. back-stops n (s .m) (s .rhs) (s .updates) col c (w stands)) (λ fallen. refl)
 
 -- m x = rhs under a limit: where the elimination meets a NaN pivot in one of its n columns, the answer is a refusal
 -- (a system that was refused before that column is refused in any case, so nothing asks that it still stands)
 pub nan-pivot-refused-under : (n : ℕ) (m rhs : List Float) (limit : Float) (col : ℕ) → col < n → isNan (pivotOf n (afterColumns n limit col (standing m rhs) .m) col) ≡ true
-    → underOf n m rhs limit ≡ refused
+    → underOf n m rhs limit ≡ refused (underOf n m rhs limit .updates)
 unfolding underOf
 nan-pivot-refused-under n m rhs limit col c h =
-    cond-test (λ (t : Solved). t ≡ refused) (ltb 0 n && leb n 6) (λ size. none n limit m rhs col (sized n size .1) c h) (λ size. refl)
+    cond-test (λ (t : Solved). t ≡ refused (t .updates)) (ltb 0 n && leb n 6) (λ size. none n limit m rhs col (sized n size .1) c h) (λ size. refl)
 
 -- and under the limit of tol times the scale
 pub nan-pivot-refused : (n : ℕ) (m rhs : List Float) (tol : Float) (col : ℕ) → col < n → isNan (pivotOf n (afterColumns n (tol *f scaleOf n m) col (standing m rhs) .m) col) ≡ true
-    → solveOf n m rhs tol ≡ refused
+    → solveOf n m rhs tol ≡ refused (solveOf n m rhs tol .updates)
 unfolding solveOf solvedAtScale
 nan-pivot-refused n m rhs tol col c h =
-    cond-test (λ (t : Solved). t ≡ refused) (leb n 6)
-    (λ size. cond-ind (λ (t : Solved). t ≡ refused) (positive (scaleOf n m)) (none n (tol *f scaleOf n m) m rhs col (leb-true n 6 size) c h) refl) (λ size. refl)
+    cond-test (λ (t : Solved). t ≡ refused (t .updates)) (leb n 6)
+    (λ size. cond-ind (λ (t : Solved). t ≡ refused (t .updates)) (positive (scaleOf n m)) (none n (tol *f scaleOf n m) m rhs col (leb-true n 6 size) c h) refl) (λ size. refl)

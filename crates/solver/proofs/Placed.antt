@@ -149,14 +149,14 @@ module _ (n o : ℕ) (x y : List Float) (six : n + o ≡ 6) (values : (i : ℕ) 
           spread-other (λ i. i) (λ i. at x (6 - n + i)) n nan (replicate 6 +0) i (λ j w z. omega arith) ∙ getD-replicate 6 i +0 nan l ∙ sym (beyond i u l)
 
 -- what is found in the rows is the plain answer
-pub first-found : (n o : ℕ) (s : Solved) (u : Room) → n + o ≡ 6 → Found n o s u → Sound n s → s .ok ≡ true → record { x = frontOf n (u .m); ok = true } ≡ s
+pub first-found : (n o : ℕ) (s : Solved) (u : Room) → n + o ≡ 6 → Found n o s u → Sound n s → s .ok ≡ true → record { x = frontOf n (u .m); ok = true; updates = s .updates } ≡ s
 first-found n o s u six f p h =
     let long = first-length n o (u .m) (s .x) six (f .values h) in
     let same = ext-getD nan (frontOf n (u .m)) (s .x) (long ∙ sym (p .six)) (λ i l. first-at n o (u .m) (s .x) six (f .values h) (p .beyond) i (omega (arith, long))) in
-    ap₂ (λ (x : List Float) (ok : Bool). record { x = x; ok = ok }) same (sym h)
+    ap₂ (λ (x : List Float) (ok : Bool). record { x = x; ok = ok; updates = s .updates }) same (sym h)
 
 -- and a refusal is the plain one
-pub none-found : (n : ℕ) (s : Solved) → Sound n s → s .ok ≡ false → refused ≡ s
+pub none-found : (n : ℕ) (s : Solved) → Sound n s → s .ok ≡ false → refused (s .updates) ≡ s
 none-found n s p h =
     let same = ext-getD nan (replicate 6 +0) (s .x) (length-replicate 6 +0 ∙ sym (p .six)) (λ i l. getD-replicate 6 i +0 nan l ∙ sym (p .none h i l)) in
-    ap₂ (λ (x : List Float) (ok : Bool). record { x = x; ok = ok }) same (sym h)
+    ap₂ (λ (x : List Float) (ok : Bool). record { x = x; ok = ok; updates = s .updates }) same (sym h)

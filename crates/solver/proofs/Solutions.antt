@@ -30,10 +30,10 @@ blank-finite : (i : ℕ) → i < 6 → finite (at (replicate 6 +0) i) ≡ true
 unfolding finite ofBits
 blank-finite i l = ap finite (blank i l)
 
-starts : (n : ℕ) (ok : Bool) → Sound n (record { ok = ok; x = replicate 6 +0 })
-starts n ok = record { six = length-replicate 6 +0; finites = blank-finite; beyond = λ i h l. blank i l; none = λ h i l. blank i l }
+starts : (n : ℕ) (ok : Bool) (updates : ℕ) → Sound n (record { ok = ok; x = replicate 6 +0; updates = updates })
+starts n ok updates = record { six = length-replicate 6 +0; finites = blank-finite; beyond = λ i h l. blank i l; none = λ h i l. blank i l }
 
-set-sound : (n row : ℕ) (v : Float) (t : Solved) → row < n → row < 6 → finite v ≡ true → Sound n t → Sound n (record { ok = true; x = set (t .x) row v })
+set-sound : (n row : ℕ) (v : Float) (t : Solved) → row < n → row < 6 → finite v ≡ true → Sound n t → Sound n (record { ok = true; x = set (t .x) row v; updates = t .updates })
 set-sound n row v t r s f p =
     record {
       six = length-set (t .x) row v ∙ p .six;
@@ -53,20 +53,30 @@ placed-sound : (n row : ℕ) (v : Float) (t : Solved) → row < n → row < 6 �
 unfolding withValue
 placed-sound n row v t r s p = go (finite v) refl
   where
-    go : (b : Bool) → finite v ≡ b → Sound n (cond b (record { ok = true; x = set (t .x) row v }) refused)
+    go : (b : Bool) → finite v ≡ b → Sound n (cond b (record { ok = true; x = set (t .x) row v; updates = t .updates }) (refused (t .updates)))
     go true e = set-sound n row v t r s e p
-    go false e = starts n false
+    go false e = starts n false (t .updates)
 
-back-sound : (n : ℕ) (m rhs : List Float) → n ≤ 6 → Sound n (backOf n m rhs)
+back-sound : (n : ℕ) (m rhs : List Float) (updates : ℕ) → n ≤ 6 → Sound n (backOf n m rhs updates)
 unfolding backOf backRowOf
-back-sound n m rhs l =
+back-sound n m rhs updates l =
     for-keeps (Sound n) _ n
-    (λ k h t p. cond-ind (Sound n) (t .ok) (placed-sound n (n - 1 - k) ((at rhs (n - 1 - k) -f rightSum n m (t .x) (n - 1 - k)) /f entry m (n - 1 - k) (n - 1 - k)) t (omega arith) (omega arith) p) p) _ (starts n true)
+    (λ k h t p. cond-ind (Sound n) (t .ok) (placed-sound n (n - 1 - k) ((at rhs (n - 1 - k) -f rightSum n m (t .x) (n - 1 - k)) /f entry m (n - 1 - k) (n - 1 - k)) t (omega arith) (omega arith) p) p) _ (starts n true updates)
 
 -- of a system that was eliminated, or refused
 pub eliminated-sound : (n : ℕ) (s : System) → n ≤ 6 → Sound n (backIf n s)
 unfolding backIf
-eliminated-sound n s l = cond-ind (Sound n) (s .ok) (back-sound n _ _ l) (starts n false)
+eliminated-sound n s l = cond-ind (Sound n) (s .ok) (back-sound n _ _ (s .updates) l) (starts n false (s .updates))
+
+-- the substitution back leaves the updates as they are
+pub back-updates : (n : ℕ) (s : System) → backIf n s .updates ≡ s .updates
+unfolding backIf backOf backRowOf withValue
+back-updates n s =
+    cond-ind Kept (s .ok)
+    (for-keeps Kept _ n (λ k h t p. cond-ind Kept (t .ok) (cond-ind Kept (finite ((at (s .rhs) (n - 1 - k) -f rightSum n (s .m) (t .x) (n - 1 - k)) /f entry (s .m) (n - 1 - k) (n - 1 - k))) p p) p) _ refl) refl
+  where
+    Kept : Solved → Type 0
+    Kept t = t .updates ≡ s .updates
 
 -- of every system whatever
 pub solve-sound : (n : ℕ) (m rhs : List Float) (tol : Float) → Sound n (solveOf n m rhs tol)
@@ -76,10 +86,10 @@ solve-sound n m rhs tol = go (leb n 6) refl
     s : Float
     s = scaleOf n m
 
-    go : (b : Bool) → leb n 6 ≡ b → Sound n (unless b refused (solvedAtScale n m rhs tol s))
+    go : (b : Bool) → leb n 6 ≡ b → Sound n (unless b (refused 0) (solvedAtScale n m rhs tol s))
     go true e =
-        cond-ind (Sound n) (positive s) (eliminated-sound n (eliminatedOf n (tol *f s) (standing m rhs)) (leb-true n 6 e)) (starts n false)
-    go false e = starts n false
+        cond-ind (Sound n) (positive s) (eliminated-sound n (eliminatedOf n (tol *f s) (standing m rhs)) (leb-true n 6 e)) (starts n false 0)
+    go false e = starts n false 0
 
 -- a system that is solved has finite unknowns
 pub solved-finite : (n : ℕ) (m rhs : List Float) (tol : Float) (i : ℕ) → i < 6 → finite (at (solveOf n m rhs tol .x) i) ≡ true

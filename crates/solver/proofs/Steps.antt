@@ -20,7 +20,7 @@ use Rattle.laws.proofs.Floats.{nan-test}
 use Rattle.laws.proofs.Loops.{again, halted}
 use Rattle.laws.proofs.Order.{lt-le-trans, lt-or, lt→le}
 use Rattle.solver.specs.Solve.{entry, ranked, rowScaleOf, exchange}
-use Rattle.solver.specs.Rows.{NotBelowZero, Room, room, pivotIn, swapIn, clearIn, raisedIn, clearedIn, columnIn, fromIn}
+use Rattle.solver.specs.Rows.{NotBelowZero, Room, Reduced, room, reduced, pivotIn, swapIn, clearIn, raisedIn, clearedIn, columnIn, fromIn}
 
 cond-same : {A : Type 0} {x : A} (t : Bool) → cond t x x ≡ x
 cond-same true = refl
@@ -236,40 +236,40 @@ swap-self m a b e = halted (λ j t. exchange t (a * 8 + j) (a * 8 + j)) a 7 (λ 
 
 module _ (n : ℕ) (limit : Float) where
   -- one column where the system has it
-  abbrev turn : ℕ → Room → Room
+  abbrev turn : ℕ → Reduced → Reduced
   turn col s = cond (leb 6 (n + col)) (columnIn limit col s) s
 
-  one-column : (k : ℕ) (s : Room) → k < 6 → fromIn (k + 1) n limit (turn k s) ≡ fromIn k n limit s
+  one-column : (k : ℕ) (s : Reduced) → k < 6 → fromIn (k + 1) n limit (turn k s) ≡ fromIn k n limit s
   unfolding fromIn
   one-column k s l = again turn k 6 l refl refl
 
-  pub left-out : (k : ℕ) (m : List Float) {w : Room} → n < 6 - k → w ≡ fromIn (k + 1) n limit (room true m) → w ≡ fromIn k n limit (room true m)
-  left-out k m {w} h e = e ∙ ap (fromIn (k + 1) n limit) (if-false _ (lt-leb 6 (n + k) (omega arith)) refl) ∙ one-column k (room true m) (omega arith)
+  pub left-out : (k : ℕ) (m : List Float) (v : ℕ) {w : Reduced} → n < 6 - k → w ≡ fromIn (k + 1) n limit (reduced true m v) → w ≡ fromIn k n limit (reduced true m v)
+  left-out k m v {w} h e = e ∙ ap (fromIn (k + 1) n limit) (if-false _ (lt-leb 6 (n + k) (omega arith)) refl) ∙ one-column k (reduced true m v) (omega arith)
 
-  module _ (k : ℕ) (m : List Float) {t : List Float} {r : Bool} (l : T (ltb k 6)) (h : 6 - k ≤ n) (e : room r t ≡ raisedIn limit k (pivotIn k m) m) where
-    brought : clearedIn k (room r t) ≡ turn k (room true m)
+  module _ (k : ℕ) (m : List Float) (v : ℕ) {t : List Float} {r : Bool} (l : T (ltb k 6)) (h : 6 - k ≤ n) (e : room r t ≡ raisedIn limit k (pivotIn k m) m) where
+    brought : clearedIn k (room r t) v ≡ turn k (reduced true m v)
     unfolding columnIn
-    brought = if-true _ (le-leb 6 (n + k) (omega arith)) (ap (clearedIn k) e)
+    brought = if-true _ (le-leb 6 (n + k) (omega arith)) (ap (λ (s : Room). clearedIn k s v) e)
 
-    pub stopped : r ≡ false → room false t ≡ fromIn k n limit (room true m)
+    pub stopped : r ≡ false → reduced false t v ≡ fromIn k n limit (reduced true m v)
     unfolding fromIn columnIn clearedIn
     stopped f =
-        let s = ap (λ (b : Bool). clearedIn k (room b t)) (sym f) ∙ brought in
-        halted turn (k + 1) 6 (λ j. cond-same (leb 6 (n + j))) (ap (fromIn (k + 1) n limit) s ∙ one-column k (room true m) (ltb→lt k 6 l))
+        let s = ap (λ (b : Bool). clearedIn k (room b t) v) (sym f) ∙ brought in
+        halted turn (k + 1) 6 (λ j. cond-same (leb 6 (n + j))) (ap (fromIn (k + 1) n limit) s ∙ one-column k (reduced true m v) (ltb→lt k 6 l))
 
-    pub cleared : {u : List Float} {w : Room} → r ≡ true → u ≡ clearIn k t → w ≡ fromIn (k + 1) n limit (room true u) → w ≡ fromIn k n limit (room true m)
+    pub cleared : {u : Reduced} {w : Reduced} → r ≡ true → u ≡ clearIn k (reduced true t v) → w ≡ fromIn (k + 1) n limit u → w ≡ fromIn k n limit (reduced true m v)
     unfolding clearedIn
     cleared {u} {w} f g d =
-        let s = ap (room true) g ∙ ap (λ (b : Bool). clearedIn k (room b t)) (sym f) ∙ brought in
-        d ∙ ap (fromIn (k + 1) n limit) s ∙ one-column k (room true m) (ltb→lt k 6 l)
+        let s = g ∙ ap (λ (b : Bool). clearedIn k (room b t) v) (sym f) ∙ brought in
+        d ∙ ap (fromIn (k + 1) n limit) s ∙ one-column k (reduced true m v) (ltb→lt k 6 l)
 
 -- the last column: its pivot is in its place, and nothing is below it
-pub last-column : (n : ℕ) (limit : Float) (m : List Float) {small : Bool} → 1 ≤ n → small ≡ le (absOf (at m 45)) limit → room (not small) m ≡ fromIn 5 n limit (room true m)
+pub last-column : (n : ℕ) (limit : Float) (m : List Float) (v : ℕ) {small : Bool} → 1 ≤ n → small ≡ le (absOf (at m 45)) limit → reduced (not small) m v ≡ fromIn 5 n limit (reduced true m v)
 unfolding fromIn turns columnIn raisedIn pivotIn clearedIn clearIn
-last-column n limit m {small} h e =
+last-column n limit m v {small} h e =
     let here : 6 ≤ n + 5 = omega arith in
-    if-true _ (le-leb 6 (n + 5) here) (go small ∙ ap (λ (b : Bool). clearedIn 5 (cond b (room false m) (room true (swapIn 5 5 m)))) e)
+    if-true _ (le-leb 6 (n + 5) here) (go small ∙ ap (λ (b : Bool). clearedIn 5 (cond b (room false m) (room true (swapIn 5 5 m))) v) e)
   where
-    go : (b : Bool) → room (not b) m ≡ clearedIn 5 (cond b (room false m) (room true (swapIn 5 5 m)))
+    go : (b : Bool) → reduced (not b) m v ≡ clearedIn 5 (cond b (room false m) (room true (swapIn 5 5 m))) v
     go true = refl
-    go false = ap (room true) (swap-self m 5 5 refl)
+    go false = ap (λ (t : List Float). reduced true t v) (swap-self m 5 5 refl)

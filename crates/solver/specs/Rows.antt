@@ -25,6 +25,15 @@ pub record Room : Type 0 where
 abbrev pub room : Bool → List Float → Room
 room ok m = record { ok = ok; m = m }
 
+-- rows under elimination: whether they still stand, and how many entries of the matrix the plain elimination has updated by then. It updates a row in its pivot's column too, where these rows are left
+pub record Reduced : Type 0 where
+  pub ok : Bool
+  pub m : List Float
+  pub updates : ℕ
+
+abbrev pub reduced : Bool → List Float → ℕ → Reduced
+reduced ok m updates = record { ok = ok; m = m; updates = updates }
+
 -- the number in row i and column j
 abbrev pub spot : List Float → ℕ → ℕ → Float
 spot m i j = at m (i * 8 + j)
@@ -44,27 +53,28 @@ unfoldable pub lessIn : ℕ → ℕ → Float → List Float → List Float
 lessIn col row factor m = for (col + 1) 7 (λ j m. set m (row * 8 + j) (spot m row j -f factor *f spot m col j)) m
 
 -- a row whose factor is a zero is left as it is
-unfoldable pub rowIn : ℕ → ℕ → Float → List Float → List Float
-rowIn col row factor m = cond (eq factor +0) m (lessIn col row factor m)
+unfoldable pub rowIn : ℕ → ℕ → Float → Reduced → Reduced
+rowIn col row factor s = cond (eq factor +0) s (reduced (s .ok) (lessIn col row factor (s .m)) (s .updates + (6 - col)))
 
 -- the rows below col
-unfoldable pub clearIn : ℕ → List Float → List Float
-clearIn col m = for (col + 1) 6 (λ row m. rowIn col row (spot m row col /f spot m col col) m) m
+unfoldable pub clearIn : ℕ → Reduced → Reduced
+clearIn col s = for (col + 1) 6 (λ row s. rowIn col row (spot (s .m) row col /f spot (s .m) col col) s) s
 
 -- the pivot, in row p, is brought up; one of at most the limit refuses
 unfoldable pub raisedIn : Float → ℕ → ℕ → List Float → Room
 raisedIn limit col p m = cond (le (absOf (spot m p col)) limit) (room false m) (room true (swapIn col p m))
 
-unfoldable pub clearedIn : ℕ → Room → Room
-clearedIn col s = cond (s .ok) (room true (clearIn col (s .m))) s
+-- the rows below it are cleared where it was brought up
+unfoldable pub clearedIn : ℕ → Room → ℕ → Reduced
+clearedIn col t updates = cond (t .ok) (clearIn col (reduced true (t .m) updates)) (reduced false (t .m) updates)
 
 -- one column; what is refused is passed on
-unfoldable pub columnIn : Float → ℕ → Room → Room
-columnIn limit col s = cond (s .ok) (clearedIn col (raisedIn limit col (pivotIn col (s .m)) (s .m))) s
+unfoldable pub columnIn : Float → ℕ → Reduced → Reduced
+columnIn limit col s = cond (s .ok) (clearedIn col (raisedIn limit col (pivotIn col (s .m)) (s .m)) (s .updates)) s
 
 -- ---- the elimination of n unknowns: the last n of the six columns, from column k on
 
-unfoldable pub fromIn : ℕ → ℕ → Float → Room → Room
+unfoldable pub fromIn : ℕ → ℕ → Float → Reduced → Reduced
 fromIn k n limit s = for k 6 (λ col s. cond (leb 6 (n + col)) (columnIn limit col s) s) s
 
 -- ---- the unknowns, from the last row up, each in its row's place of x
@@ -82,13 +92,16 @@ backRowIn m row s = cond (s .ok) (room (finite (valueIn m (s .m) row)) (set (s .
 unfoldable pub backIn : ℕ → List Float → List Float → Room
 backIn n m x = for 0 n (λ k s. backRowIn m (5 - k) s) (room true x)
 
--- ---- the whole: what is left in the room of the unknowns
+-- ---- the whole: what is left in the room of the unknowns, and the updates
 
-abbrev pub backIfIn : ℕ → List Float → Room → Room
+abbrev pub backIfIn : ℕ → List Float → Reduced → Room
 backIfIn n x s = unless (s .ok) (room false x) (backIn n (s .m) x)
 
 unfoldable pub solvedIn : ℕ → Float → List Float → List Float → Room
-solvedIn n limit m x = backIfIn n x (fromIn 0 n limit (room true m))
+solvedIn n limit m x = backIfIn n x (fromIn 0 n limit (reduced true m 0))
+
+abbrev pub updatesIn : ℕ → Float → List Float → ℕ
+updatesIn n limit m = fromIn 0 n limit (reduced true m 0) .updates
 
 -- ---- a system of the 6 by 6 form put into the rows, and its unknowns taken out
 

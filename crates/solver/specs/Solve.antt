@@ -1,5 +1,5 @@
 -- `solve_linear` of calibrate.rs: Gaussian elimination with partial pivoting on the first n rows and columns of a 6 by 6 matrix, row by row in one list,
--- and the substitution back. Every operation is rounded once, in the order written. Definitions only.
+-- the substitution back, and how many entries of the matrix the elimination updates. Every operation is rounded once, in the order written. Definitions only.
 -- docs/METHOD.md, 'One cell: every face of the polytope'.
 use mathlib.Core.Bool.{Bool, true, false, _&&_, _||_, cond}
 use mathlib.Core.List.{List}
@@ -12,25 +12,27 @@ use Rattle.laws.specs.Choice.{unless}
 use Rattle.laws.specs.Floats.{_+f_, _-f_, _*f_, _/f_, +0, at, absOf, finite, positive, maxOf}
 use Rattle.solver.specs.declared.Solved.{Solved}
 
--- a system under elimination: whether it still stands, its matrix and its right side
+-- a system under elimination: whether it still stands, its matrix, its right side, and how many entries of the matrix were updated
 pub record System : Type 0 where
   pub ok : Bool
   pub m : List Float
   pub rhs : List Float
+  pub updates : ℕ
 
-abbrev pub after : Bool → List Float → List Float → System
-after ok m rhs = record { ok = ok; m = m; rhs = rhs }
+abbrev pub after : Bool → List Float → List Float → ℕ → System
+after ok m rhs updates = record { ok = ok; m = m; rhs = rhs; updates = updates }
 
+-- before the first column
 abbrev pub standing : List Float → List Float → System
-standing m rhs = after true m rhs
+standing m rhs = after true m rhs 0
 
 -- the entry in row i and column j
 abbrev pub entry : List Float → ℕ → ℕ → Float
 entry m i j = at m (i * 6 + j)
 
--- no solution
-abbrev pub refused : Solved
-refused = record { ok = false; x = replicate 6 +0 }
+-- no solution, after so many updates
+abbrev pub refused : ℕ → Solved
+refused updates = record { ok = false; x = replicate 6 +0; updates = updates }
 
 -- ---- the scale: the largest magnitude of all entries, row by row, +0 to begin with
 
@@ -62,7 +64,7 @@ unfoldable pub swapRows : List Float → ℕ → ℕ → List Float
 swapRows m a b = for 0 6 (λ j m. exchange m (a * 6 + j) (b * 6 + j)) m
 
 abbrev pub swapped : System → ℕ → ℕ → System
-swapped s a b = after (s .ok) (swapRows (s .m) a b) (exchange (s .rhs) a b)
+swapped s a b = after (s .ok) (swapRows (s .m) a b) (exchange (s .rhs) a b) (s .updates)
 
 -- ---- the elimination
 
@@ -78,11 +80,11 @@ minusOf n col values row factor m = for col n (λ j m. set m (row * 6 + j) (entr
 abbrev pub factorOf : ℕ → List Float → ℕ → List Float → Float
 factorOf col values row m = entry m row col /f at values col
 
--- a row and its right side; one whose factor is a zero is left as it is
+-- a row and its right side: the row's entries from column col on are updated. One whose factor is a zero is left as it is
 unfoldable pub rowDone : ℕ → ℕ → List Float → ℕ → Float → System → System
 rowDone n col values row factor s =
     cond (eq factor +0) s
-    (after (s .ok) (minusOf n col values row factor (s .m)) (set (s .rhs) row (at (s .rhs) row -f factor *f at (s .rhs) col)))
+    (after (s .ok) (minusOf n col values row factor (s .m)) (set (s .rhs) row (at (s .rhs) row -f factor *f at (s .rhs) col)) (s .updates + (n - col)))
 
 -- the rows below col
 unfoldable pub belowOf : ℕ → ℕ → List Float → System → System
@@ -91,7 +93,7 @@ belowOf n col values s = for (col + 1) n (λ row s. rowDone n col values row (fa
 -- a pivot, in row p, of at most the limit refuses; a NaN is not at most anything, so it passes
 unfoldable pub pivoted : ℕ → Float → ℕ → ℕ → System → System
 pivoted n limit col p s =
-    cond (le (absOf (entry (s .m) p col)) limit) (after false (s .m) (s .rhs))
+    cond (le (absOf (entry (s .m) p col)) limit) (after false (s .m) (s .rhs) (s .updates))
     (belowOf n col (matrixRow (swapRows (s .m) col p) col) (swapped s col p))
 
 -- one column; a refused system is passed on
@@ -113,26 +115,27 @@ rightSum n m x row = for (row + 1) n (λ j tail. tail +f entry m row j *f at x j
 
 -- a value that is not finite refuses
 unfoldable pub withValue : ℕ → Float → Solved → Solved
-withValue row value t = unless (finite value) refused (record { ok = true; x = set (t .x) row value })
+withValue row value t = unless (finite value) (refused (t .updates)) (record { ok = true; x = set (t .x) row value; updates = t .updates })
 
 unfoldable pub backRowOf : ℕ → List Float → List Float → ℕ → Solved → Solved
 backRowOf n m rhs row t = cond (t .ok) (withValue row ((at rhs row -f rightSum n m (t .x) row) /f entry m row row) t) t
 
-unfoldable pub backOf : ℕ → List Float → List Float → Solved
-backOf n m rhs = for 0 n (λ k t. backRowOf n m rhs (n - 1 - k) t) (record { ok = true; x = replicate 6 +0 })
+-- it updates no entry of the matrix
+unfoldable pub backOf : ℕ → List Float → List Float → ℕ → Solved
+backOf n m rhs updates = for 0 n (λ k t. backRowOf n m rhs (n - 1 - k) t) (record { ok = true; x = replicate 6 +0; updates = updates })
 
 -- ---- the whole
 
 unfoldable pub backIf : ℕ → System → Solved
-backIf n s = unless (s .ok) refused (backOf n (s .m) (s .rhs))
+backIf n s = unless (s .ok) (refused (s .updates)) (backOf n (s .m) (s .rhs) (s .updates))
 
 -- m x = rhs in n unknowns under a limit of the pivots; no size but 1 to 6 has an answer
 unfoldable pub underOf : ℕ → List Float → List Float → Float → Solved
-underOf n m rhs limit = unless (ltb 0 n && leb n 6) refused (backIf n (eliminatedOf n limit (standing m rhs)))
+underOf n m rhs limit = unless (ltb 0 n && leb n 6) (refused 0) (backIf n (eliminatedOf n limit (standing m rhs)))
 
 unfoldable pub solvedAtScale : ℕ → List Float → List Float → Float → Float → Solved
-solvedAtScale n m rhs tol scale = unless (positive scale) refused (backIf n (eliminatedOf n (tol *f scale) (standing m rhs)))
+solvedAtScale n m rhs tol scale = unless (positive scale) (refused 0) (backIf n (eliminatedOf n (tol *f scale) (standing m rhs)))
 
 -- m x = rhs in n unknowns; a size above 6 is refused, and so is 0, whose scale is no positive one
 unfoldable pub solveOf : ℕ → List Float → List Float → Float → Solved
-solveOf n m rhs tol = unless (leb n 6) refused (solvedAtScale n m rhs tol (scaleOf n m))
+solveOf n m rhs tol = unless (leb n 6) (refused 0) (solvedAtScale n m rhs tol (scaleOf n m))

@@ -5,13 +5,15 @@ mod rows;
 ghost use mathlib.Core.Path.{_≡_};
 ghost use Prim.Native.Nat.{_+_, _≤_, _<_};
 ghost use Rattle.laws.specs.Floats.{+0};
-ghost use Rattle.solver.specs.Solve.{rowScaleOf, scaleOf, underOf, solveOf};
+ghost use Rattle.solver.specs.Solve.{refused, rowScaleOf, scaleOf, underOf, solveOf};
 ghost use Rattle.solver.specs.Rows.{NotBelowZero, placedRow, placedOf, frontOf};
 
 // The unknowns, and whether there is a solution; what is no unknown is 0. The six numbers come first: behind the bool they would be copied from an odd address.
+// `updates` is how many entries of the matrix the elimination as defined updates, also one that is refused: it is the same whichever way the code takes.
 pub struct Solved {
     pub x: [f64; 6],
     pub ok: bool,
+    pub updates: usize,
 }
 
 // The largest magnitude of a row, from +0 on: no row waits for the one before. A -0 is not above +0, so its sign may stay.
@@ -94,7 +96,18 @@ fn first(x: &[f64; 6], n: usize) -> [f64; 6]
     r
 }
 
-// m x = rhs in n unknowns, or a refusal: a size other than 1 to 6, a pivot of at most the limit, or a value that is not finite.
+// No solution, after so many updates.
+fn refused(updates: usize) -> Solved
+    ensures { λ r. ⌜ r ≡ refused updates ⌝ }
+{
+    Solved {
+        x: [0.0; 6],
+        ok: false,
+        updates: updates,
+    }
+}
+
+// m x = rhs in n unknowns, or a refusal: a size other than 1 to 6 (no updates), a pivot of at most the limit, or a value that is not finite.
 // Where a caller names the size, the compiler writes the system to its rows without a copy; `solve_rows`, which has two callers, stays one piece of code.
 pub fn solve_under(m: [f64; 36], rhs: [f64; 6], n: usize, limit: f64) -> Solved
     ensures { λ r. ⌜ r ≡ underOf n m rhs limit ⌝ }
@@ -102,20 +115,21 @@ pub fn solve_under(m: [f64; 36], rhs: [f64; 6], n: usize, limit: f64) -> Solved
     if (0 < n) & (n <= 6) {
         let mut t = place(&m, &rhs, n);
         let mut x = [0.0; 6];
-        if rows::solve_rows(&mut t, n, limit, &mut x) {
+        let e = rows::solve_rows(&mut t, n, limit, &mut x);
+        let updates = e.updates;
+        if e.ok {
             return Solved {
                 x: first(&x, n),
                 ok: true,
+                updates,
             };
         }
+        return refused(updates);
     }
-    Solved {
-        x: [0.0; 6],
-        ok: false,
-    }
+    refused(0)
 }
 
-// The same with a limit of tol times the scale. Refused are n above 6, no positive finite scale, a pivot of at most the limit, and a value that is not finite.
+// The same with a limit of tol times the scale. Refused are n above 6 and no positive finite scale (no updates), a pivot of at most the limit, and a value that is not finite.
 pub fn solve(m: [f64; 36], rhs: [f64; 6], n: usize, tol: f64) -> Solved
     ensures { λ r. ⌜ r ≡ solveOf n m rhs tol ⌝ }
 {
@@ -124,16 +138,17 @@ pub fn solve(m: [f64; 36], rhs: [f64; 6], n: usize, tol: f64) -> Solved
         if bits::is_finite(scale) & (scale > 0.0) {
             let mut t = laid(&m, &rhs, n);
             let mut x = [0.0; 6];
-            if rows::solve_rows(&mut t, n, tol * scale, &mut x) {
+            let e = rows::solve_rows(&mut t, n, tol * scale, &mut x);
+            let updates = e.updates;
+            if e.ok {
                 return Solved {
                     x: first(&x, n),
                     ok: true,
+                    updates,
                 };
             }
+            return refused(updates);
         }
     }
-    Solved {
-        x: [0.0; 6],
-        ok: false,
-    }
+    refused(0)
 }

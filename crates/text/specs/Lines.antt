@@ -36,9 +36,9 @@ readLine read kept = ascii "read" ++ (countsOf (read ∷ []) ++ countsLine (asci
 unfoldable pub fitLine : SviSlice → List ℕ
 fitLine s = floatsLine (ascii "fit") (s .tau ∷ s .a ∷ s .b ∷ s .rho ∷ s .m ∷ s .sigma ∷ [])
 
--- the five counts of the search
+-- the six counts of the search
 unfoldable pub searchLine : Counts → List ℕ
-searchLine n = countsLine (ascii "search") (n .passes ∷ n .recentres ∷ n .shrinks ∷ n .cells ∷ n .faces ∷ [])
+searchLine n = countsLine (ascii "search") (n .passes ∷ n .recentres ∷ n .shrinks ∷ n .cells ∷ n .faces ∷ n .updates ∷ [])
 
 -- the objective, of the search and of the slice, the room to two bounds, and the error in volatility
 unfoldable pub marginsLine : FitAnswer → List ℕ

@@ -28,7 +28,7 @@ fn is_late(number: u32) -> bool
 }
 
 pub(crate) fn refusal(out: &mut [u8], at: usize, a: FitAnswer) -> usize
-    requires { ⌜ at + 183 ≤ length (now out) ⌝ }
+    requires { ⌜ at + 204 ≤ length (now out) ⌝ }
     ensures { λ r. ⌜ Wrote (now (out .entry)) (now (out .exit)) at r (refusalText a) ⌝ }
 {
     let late = is_late(a.number);
@@ -40,9 +40,9 @@ pub(crate) fn refusal(out: &mut [u8], at: usize, a: FitAnswer) -> usize
 }
 
 pub(crate) fn figures(out: &mut [u8], at: usize, a: FitAnswer) -> usize
-    requires { ⌜ at + 326 ≤ length (now out) ⌝ }
+    requires { ⌜ at + 347 ≤ length (now out) ⌝ }
     ensures { λ r. ⌜ Wrote (now (out .entry)) (now (out .exit)) at r (figuresText a) ⌝ }
-    ensures { λ r. ⌜ r ≤ at + 326 ⌝ }
+    ensures { λ r. ⌜ r ≤ at + 347 ⌝ }
 {
     let p = lines::fit_line(out, at, a.slice);
     let q = lines::search_line(out, p, a.counts);

@@ -51,11 +51,18 @@ pub(crate) fn fit_line(out: &mut [u8], at: usize, s: SviSlice) -> usize
 }
 
 pub(crate) fn search_line(out: &mut [u8], at: usize, n: Counts) -> usize
-    requires { ⌜ at + 112 ≤ length (now out) ⌝ }
+    requires { ⌜ at + 133 ≤ length (now out) ⌝ }
     ensures { λ r. ⌜ Wrote (now (out .entry)) (now (out .exit)) at r (searchLine n) ⌝ }
-    ensures { λ r. ⌜ r ≤ at + 112 ⌝ }
+    ensures { λ r. ⌜ r ≤ at + 133 ⌝ }
 {
-    let ns = [n.passes, n.recentres, n.shrinks, n.cells, n.faces];
+    let ns = [
+        n.passes,
+        n.recentres,
+        n.shrinks,
+        n.cells,
+        n.faces,
+        n.updates,
+    ];
     counts_line(out, at, b"search", &ns)
 }
 

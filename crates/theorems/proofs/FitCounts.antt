@@ -1,4 +1,4 @@
--- The five counts of every answer: zero where an entry check refuses, and always within document 01's sizes.
+-- The six counts of every answer: zero where an entry check refuses, and always within document 01's sizes.
 use mathlib.Core.Path.{_≡_, refl, sym, ap, subst}
 use mathlib.Core.Bool.{Bool, true, false}
 use mathlib.Core.List.{List}
@@ -10,8 +10,8 @@ use borrow.Author.Tests.{eqb-true, eqb-false}
 use Rattle.records.specs.declared.Counts.{Counts}
 use Rattle.search.specs.Search.{limitOf}
 use Rattle.search.specs.Run.{fitCell}
-use Rattle.search.proofs.SearchCounts.{most-faces, roomy}
-use Rattle.search.proofs.FitCells.{fit-most}
+use Rattle.search.proofs.SearchCounts.{most-faces, most-updates, roomy}
+use Rattle.search.proofs.FitCells.{fit-most, fit-few}
 use Rattle.records.specs.declared.FitConfig.{FitConfig}
 use Rattle.records.specs.declared.FitAnswer.{FitAnswer}
 use Rattle.records.specs.Settings.{defaultsOf}
@@ -40,17 +40,18 @@ module _ (tau : Float) (c : FitConfig) (ks ws weights : List Float) (room slots 
   pub fit-counts : SizedCounts (fitOf tau c ks ws weights room slots .counts)
   unfolding planOf fitSearch
   fit-counts =
-      counts-ind SizedCounts (record { passes = omega arith; cells = omega arith; faces = omega arith })
+      counts-ind SizedCounts (record { passes = omega arith; cells = omega arith; faces = omega arith; updates = omega arith })
       (λ h.
       let z = passed tau c ks ws weights room slots (entered tau c ks ws weights room slots h .0) .sized in
-      let r = roomy (fitCell ks ws (scaledFor c weights) (limitsFor c ws)) (fit-most ks ws (scaledFor c weights) (limitsFor c ws)) (planFor c ks) (z .grid) (z .refinements) (z .recentres) (limitOf (planFor c ks)) (omega arith) in
-      record { passes = r .passes; cells = r .cells; faces = r .faces })
+      let r = roomy (fitCell ks ws (scaledFor c weights) (limitsFor c ws)) (fit-most ks ws (scaledFor c weights) (limitsFor c ws)) (fit-few ks ws (scaledFor c weights) (limitsFor c ws)) (planFor c ks) (z .grid) (z .refinements) (z .recentres) (limitOf (planFor c ks)) (omega arith) in
+      record { passes = r .passes; cells = r .cells; faces = r .faces; updates = r .updates })
 
 pub default-counts : (tau : Float) (ks ws weights : List Float) (room slots : ℕ) → DefaultCounts (fitOf tau defaultsOf ks ws weights room slots .counts)
 unfolding planOf fitSearch
 default-counts tau ks ws weights room slots =
-    counts-ind tau defaultsOf ks ws weights room slots DefaultCounts (record { passes = omega arith; cells = omega arith; faces = omega arith })
+    counts-ind tau defaultsOf ks ws weights room slots DefaultCounts (record { passes = omega arith; cells = omega arith; faces = omega arith; updates = omega arith })
     (λ h.
     let s = searched-as-defined tau defaultsOf ks ws weights room slots h .search in
     let m = most-faces (fitCell ks ws (scaledFor defaultsOf weights) (limitsFor defaultsOf ws)) (planFor defaultsOf ks) (limitOf (planFor defaultsOf ks)) 64 (fit-most ks ws (scaledFor defaultsOf weights) (limitsFor defaultsOf ws)) in
-    record { passes = s .passes; cells = omega (arith, s .passes, s .cells); faces = omega (arith, s .passes, s .cells, m) })
+    let u = most-updates (fitCell ks ws (scaledFor defaultsOf weights) (limitsFor defaultsOf ws)) (planFor defaultsOf ks) (limitOf (planFor defaultsOf ks)) 3438 (fit-few ks ws (scaledFor defaultsOf weights) (limitsFor defaultsOf ws)) in
+    record { passes = s .passes; cells = omega (arith, s .passes, s .cells); faces = omega (arith, s .passes, s .cells, m); updates = omega (arith, s .passes, s .cells, u) })

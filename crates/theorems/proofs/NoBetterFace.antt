@@ -1,11 +1,12 @@
 -- What is promised of every search, for cells that are chosen from faces: its counts, its passes, and that no face that qualifies, tried in any cell of any pass made,
 -- has a smaller objective than the one chosen, which is such a face. Assumes nothing.
-use mathlib.Core.Path.{_≡_, subst, _∙_}
+use mathlib.Core.Path.{_≡_, ap, subst, fun-ext, _∙_}
 use mathlib.Core.Bool.{Bool, true, false, not}
 use Prim.Native.Nat.{ℕ, _+_, _-_, _<_}
 use native.Mathlib.Omega.{arith}
 use lib.Dec.{T}
 use lib.Ieee.{Float, lt, le}
+use Rattle.laws.specs.Loop.{sum}
 use Rattle.laws.proofs.Floats.{finite-no-nan}
 use Rattle.laws.proofs.Order.{lt-or, lt-le-trans}
 use Rattle.cell.specs.declared.Cell.{Cell}
@@ -14,9 +15,10 @@ use Rattle.moves.specs.declared.Plan.{Plan}
 use Rattle.moves.specs.declared.Search.{Search}
 use Rattle.moves.specs.Moves.{axisPoint}
 use Rattle.search.specs.Search.{CellFn, passOf, afterPasses, limitOf, searchOf}
-use Rattle.search.specs.Promised.{FaceFn, ChosenFrom, cellOfPass, faceOfPass, Qualifies, Yields, ChosenFace, Promised}
+use Rattle.search.specs.Promised.{FaceFn, UpdatesFn, ChosenFrom, cellOfPass, faceOfPass, updatesOfPass, Qualifies, Yields, ChosenFace, Promised}
 use Rattle.search.proofs.Passes.{AsGood, Proper, pass-stands}
-use Rattle.search.proofs.Trail.{trail, some-pass}
+use Rattle.search.proofs.Trail.{trail, some-pass, passUpdates}
+use Rattle.search.proofs.SearchCounts.{most-updates}
 use Rattle.theorems.proofs.Least.{going-on, Refusal, refusal, yields, met}
 use Rattle.theorems.proofs.Chosen.{Chosen, chosen}
 
@@ -30,7 +32,7 @@ as-good-trans b c v pb pc g s least k =
     at-most true h k = tt
     at-most false h k = absurd (k (h tt))
 
-module _ (f : CellFn) (g : FaceFn) (top : ℕ) (from : ChosenFrom f g top) (p : Plan) where
+module _ (f : CellFn) (g : FaceFn) (u : UpdatesFn) (top most : ℕ) (from : ChosenFrom f g u top most) (p : Plan) where
   proper : (m ls : Float) → Proper (f m ls)
   proper m ls h = finite-no-nan _ (from .finite-objective m ls h)
 
@@ -83,7 +85,11 @@ module _ (f : CellFn) (g : FaceFn) (top : ℕ) (from : ChosenFrom f g top) (p : 
       let n = trail f p (q + 1) .on on in
       pass-yields q (yields f p (q + 1) (going-on f p (q + 1) on) .each q (omega (arith, n)))
 
-  pub no-better-face : Promised f g top p (searchOf f p)
+  -- the updates of a pass are those of the faces that its cells try
+  each-face : (q : ℕ) → passUpdates f p q ≡ sum (p .n) (λ i. sum (p .n) (λ j. sum (cellOfPass f p q i j .faces) (updatesOfPass f u p q i j)))
+  each-face q = ap (sum (p .n)) (fun-ext (λ i. ap (sum (p .n)) (fun-ext (λ j. from .updates (mAt q i) (lsAt q j)))))
+
+  pub no-better-face : Promised f g u top most p (searchOf f p)
   no-better-face =
       let k = limitOf p in
       let s = searchOf f p in
@@ -98,6 +104,8 @@ module _ (f : CellFn) (g : FaceFn) (top : ℕ) (from : ChosenFrom f g top) (p : 
         shrinks = t .shrinks;
         cells = t .cells;
         faces = t .faces;
+        updates = t .updates ∙ ap (sum (s .counts .passes)) (fun-ext each-face);
+        few = most-updates f p k most (from .few);
         tries = λ q i j. from .tries (mAt q i) (lsAt q j);
         made = t .made;
         after = t .same;

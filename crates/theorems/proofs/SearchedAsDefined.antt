@@ -14,7 +14,7 @@ use Rattle.slice.specs.Slice.{numberOf}
 use Rattle.cell.specs.Cell.{inRange}
 use Rattle.moves.specs.declared.Search.{Search}
 use Rattle.search.specs.Promised.{Promised}
-use Rattle.search.specs.Run.{fitCell, fitFace}
+use Rattle.search.specs.Run.{fitCell, fitFace, fitUpdates}
 use Rattle.search.proofs.FitCells.{fit-chosen}
 use Rattle.theorems.proofs.NoBetterFace.{no-better-face}
 use Rattle.weights.specs.Weights.{scaledOf, cappedOf}
@@ -110,11 +110,12 @@ module _ (tau : Float) (c : FitConfig) (ks ws weights : List Float) (room slots 
       }) room slots
 
   search-promised : entryNumber tau c ks ws weights room slots ≡ 0
-      → Promised (fitCell ks ws (scaledFor c weights) (limitsFor c ws)) (fitFace ks ws (scaledFor c weights) (limitsFor c ws)) 64 (planFor c ks) (searchFor c ks ws weights)
+      → Promised (fitCell ks ws (scaledFor c weights) (limitsFor c ws)) (fitFace ks ws (scaledFor c weights) (limitsFor c ws)) (fitUpdates ks ws (scaledFor c weights) (limitsFor c ws)) 64 3438 (planFor c ks)
+      (searchFor c ks ws weights)
   unfolding fitSearch
   search-promised h =
       let p = passed tau c ks ws weights room slots (entered tau c ks ws weights room slots h .0) in
-      no-better-face _ _ 64 (fit-chosen ks ws (scaledFor c weights) (limitsFor c ws) (in-range c ks ws weights (p .sized))) (planFor c ks)
+      no-better-face _ _ _ 64 3438 (fit-chosen ks ws (scaledFor c weights) (limitsFor c ws) (in-range c ks ws weights (p .sized))) (planFor c ks)
 
   pub searched-as-defined : entryNumber tau c ks ws weights room slots ≡ 0 → Searched tau c ks ws weights (fitOf tau c ks ws weights room slots)
   searched-as-defined h =

@@ -15,7 +15,7 @@ use Rattle.roots.specs.Hypot.{hypotOf}
 use Rattle.roots.specs.Root.{rootOf}
 use Rattle.rows.specs.Answers.{bracketFor, checkAt, coversFor, diagnosedCounts, diagnosedFor, diagnosedWorst, placesRow, regionFor, reportAt, roomFor, totalAnswer, totalFor, totalRow}
 use Rattle.rows.specs.Flag.{flag}
-use Rattle.rows.specs.Rows.{cellValues, rangeRow, readLimits, readRange, readSlice, realsRow, sizesRow, sliceRow, valuesRow}
+use Rattle.rows.specs.Rows.{cellCounts, cellValues, rangeRow, readLimits, readRange, readSlice, realsRow, sizesRow, sliceRow, valuesRow}
 use Rattle.rows.specs.Slices.{levelAnswer, rangeAnswer, sliceAnswer, valuesAnswer}
 use Rattle.run.specs.Answer.{answerOf}
 use Rattle.slice.specs.Slice.{evalOf, holdsK, leeSlopeOf, madeOf, minimumOf, rangedOf}
@@ -90,12 +90,12 @@ pub port-raw-eval : (slice : List Float) (k : Float) (values : List Float) {r₁
 port-raw-eval slice k values {r₁} {r₂} {values-exit₁} {values-exit₂} h₁ h₂ = (cc, cc)
 
 -- port::port_raw_solve
-pub port-raw-solve : (m : List Float) (rhs : List Float) (n : ℕ) (tol : Float) (x : List Float) {r₁ r₂ : ℕ} {x-exit₁ x-exit₂ : List Float} → ((r₁ ≡ flag (solveOf n m rhs tol .ok)) × (x-exit₁ ≡ solveOf n m rhs tol .x)) → ((r₂ ≡ flag (solveOf n m rhs tol .ok)) × (x-exit₂ ≡ solveOf n m rhs tol .x)) → (r₁ ≡ r₂) × (x-exit₁ ≡ x-exit₂)
-port-raw-solve m rhs n tol x {r₁} {r₂} {x-exit₁} {x-exit₂} h₁ h₂ = (cc, cc)
+pub port-raw-solve : (m : List Float) (rhs : List Float) (n : ℕ) (tol : Float) (x : List Float) (updates : List ℕ) {r₁ r₂ : ℕ} {x-exit₁ x-exit₂ : List Float} {updates-exit₁ updates-exit₂ : List ℕ} → ((r₁ ≡ flag (solveOf n m rhs tol .ok)) × (x-exit₁ ≡ solveOf n m rhs tol .x) × (updates-exit₁ ≡ solveOf n m rhs tol .updates ∷ [])) → ((r₂ ≡ flag (solveOf n m rhs tol .ok)) × (x-exit₂ ≡ solveOf n m rhs tol .x) × (updates-exit₂ ≡ solveOf n m rhs tol .updates ∷ [])) → (r₁ ≡ r₂) × (x-exit₁ ≡ x-exit₂) × (updates-exit₁ ≡ updates-exit₂)
+port-raw-solve m rhs n tol x updates {r₁} {r₂} {x-exit₁} {x-exit₂} {updates-exit₁} {updates-exit₂} h₁ h₂ = (cc, cc, cc)
 
 -- port::port_raw_cell
-pub port-raw-cell : (k : List Float) (w : List Float) (scaled : List Float) (limits : List Float) (m : Float) (sigma : Float) (faces : List ℕ) (values : List Float) (active : List Bool) {r₁ r₂ : ℕ} {faces-exit₁ faces-exit₂ : List ℕ} {values-exit₁ values-exit₂ : List Float} {active-exit₁ active-exit₂ : List Bool} → ((r₁ ≡ flag (innerOf k w scaled (readLimits limits) m sigma .some)) × (faces-exit₁ ≡ innerOf k w scaled (readLimits limits) m sigma .faces ∷ []) × (values-exit₁ ≡ cellValues (innerOf k w scaled (readLimits limits) m sigma)) × (active-exit₁ ≡ innerOf k w scaled (readLimits limits) m sigma .active)) → ((r₂ ≡ flag (innerOf k w scaled (readLimits limits) m sigma .some)) × (faces-exit₂ ≡ innerOf k w scaled (readLimits limits) m sigma .faces ∷ []) × (values-exit₂ ≡ cellValues (innerOf k w scaled (readLimits limits) m sigma)) × (active-exit₂ ≡ innerOf k w scaled (readLimits limits) m sigma .active)) → (r₁ ≡ r₂) × (faces-exit₁ ≡ faces-exit₂) × (values-exit₁ ≡ values-exit₂) × (active-exit₁ ≡ active-exit₂)
-port-raw-cell k w scaled limits m sigma faces values active {r₁} {r₂} {faces-exit₁} {faces-exit₂} {values-exit₁} {values-exit₂} {active-exit₁} {active-exit₂} h₁ h₂ = (cc, cc, cc, cc)
+pub port-raw-cell : (k : List Float) (w : List Float) (scaled : List Float) (limits : List Float) (m : Float) (sigma : Float) (counts : List ℕ) (values : List Float) (active : List Bool) {r₁ r₂ : ℕ} {counts-exit₁ counts-exit₂ : List ℕ} {values-exit₁ values-exit₂ : List Float} {active-exit₁ active-exit₂ : List Bool} → ((r₁ ≡ flag (innerOf k w scaled (readLimits limits) m sigma .some)) × (counts-exit₁ ≡ cellCounts (innerOf k w scaled (readLimits limits) m sigma)) × (values-exit₁ ≡ cellValues (innerOf k w scaled (readLimits limits) m sigma)) × (active-exit₁ ≡ innerOf k w scaled (readLimits limits) m sigma .active)) → ((r₂ ≡ flag (innerOf k w scaled (readLimits limits) m sigma .some)) × (counts-exit₂ ≡ cellCounts (innerOf k w scaled (readLimits limits) m sigma)) × (values-exit₂ ≡ cellValues (innerOf k w scaled (readLimits limits) m sigma)) × (active-exit₂ ≡ innerOf k w scaled (readLimits limits) m sigma .active)) → (r₁ ≡ r₂) × (counts-exit₁ ≡ counts-exit₂) × (values-exit₁ ≡ values-exit₂) × (active-exit₁ ≡ active-exit₂)
+port-raw-cell k w scaled limits m sigma counts values active {r₁} {r₂} {counts-exit₁} {counts-exit₂} {values-exit₁} {values-exit₂} {active-exit₁} {active-exit₂} h₁ h₂ = (cc, cc, cc, cc)
 
 -- port::port_check_point
 pub port-check-point : (k : Float) (tau : Float) {r₁ r₂ : ℕ} → (r₁ ≡ pointNumber k tau) → (r₂ ≡ pointNumber k tau) → r₁ ≡ r₂

@@ -7,8 +7,9 @@ use Rattle.cell.proofs.cell_from.Tie as tie
 returns : tie.Need-returns
 unfolding cellFrom
 returns c =
-    let a = c .before .before .args in
-    λ i. record { some = a .t .some; objective = a .t .objective; x = a .t .x; active = c .before .marks .ensures i; faces = a .faces }
+    let a = c .before .before .before .args in
+    let t = a .w .best in
+    λ i. record { some = t .some; objective = t .objective; x = t .x; active = c .before .marks .ensures i; faces = a .faces; updates = a .w .updates }
 
 pub cell-from-spec : {M : Type 1} → statement M
 cell-from-spec =

@@ -6,7 +6,7 @@ use Rattle.search.specs.Search.{afterPasses, limitOf}
 use Rattle.search.specs.Run.{fitCell}
 use Rattle.search.proofs.Trail.{after-start, ended-early, stepped}
 use Rattle.search.proofs.SearchCounts.{sizes-are, roomy}
-use Rattle.search.proofs.FitCells.{fit-most}
+use Rattle.search.proofs.FitCells.{fit-most, fit-few}
 use native.Mathlib.Omega.{arith}
 use Rattle.search.proofs.searched.Statement.{statement}
 use Rattle.search.proofs.searched.Tie as tie
@@ -37,7 +37,7 @@ step-requires c κs =
     let a = c .before .before .before .before .before .before .before .before .before .before .args in
     let l = c .before .before .before .loop in
     let z = sizes-are (a .p) (c .before .before .before .before .before .before .before .before .before .before .pre) in
-    rw (l .inv .1) (roomy (fitCell (a .ks .now) (a .ws .now) (a .weights .now) (a .l)) (fit-most (a .ks .now) (a .ws .now) (a .weights .now) (a .l)) (a .p) (z .grid) (z .refinements) (z .recentres) (l .t) (l .inv .0))
+    rw (l .inv .1) (roomy (fitCell (a .ks .now) (a .ws .now) (a .weights .now) (a .l)) (fit-most (a .ks .now) (a .ws .now) (a .weights .now) (a .l)) (fit-few (a .ks .now) (a .ws .now) (a .weights .now) (a .l)) (a .p) (z .grid) (z .refinements) (z .recentres) (l .t) (l .inv .0))
 
 add-t : tie.Need-add-t Inv-loop μ-loop
 add-t c = let z = sizes-are _ (c .before .before .before .before .before .before .before .before .before .before .before .pre) in omega (arith, c .before .before .before .loop-test .taken, z .recentres, z .refinements)

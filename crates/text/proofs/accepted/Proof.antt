@@ -16,7 +16,7 @@ returns : tie.Need-returns
 returns c = empty _ _ 32768 (too-many _ _ _ (c .before .before .before .before .before .args .residuals .now) (c .before .before .before .before .before .args .capped .now) (sym (c .before .few .ensures) ∙ not-true _ (c .if1 .taken)))
 
 -- a page has room for as many points and capped positions as there may be
-points-fit : (l : List ℕ) (p q r m : ℕ) → length l ≡ 32768 → p ≤ 52 → q ≤ p + 326 → r ≤ 1024 → m ≤ 256 → q + 28 + 21 * m + 74 * (r / 4) ≤ length l
+points-fit : (l : List ℕ) (p q r m : ℕ) → length l ≡ 32768 → p ≤ 52 → q ≤ p + 347 → r ≤ 1024 → m ≤ 256 → q + 28 + 21 * m + 74 * (r / 4) ≤ length l
 points-fit l p q r m e h k a b = omega arith
 
 points-requires : tie.Need-points-requires
@@ -41,7 +41,7 @@ accepted-spec =
     (λ c. page-long 32768)
     (λ c κs. page-room 32768 52 (lit≤ tt))
     (λ c. sym (c .before .page2 .given))
-    (λ c κs. more-fits (c .before .before .read-line .last .0) (c .before .before .read-line .result) 52 326 32768 (c .before .page2 .given) (c .before .before .read-line .ensures .1) (lit≤ tt))
+    (λ c κs. more-fits (c .before .before .read-line .last .0) (c .before .before .read-line .result) 52 347 32768 (c .before .page2 .given) (c .before .before .read-line .ensures .1) (lit≤ tt))
     (λ c. sym (c .before .page4 .given))
     points-requires
     (λ c. wrote-within (c .before .points .ensures))

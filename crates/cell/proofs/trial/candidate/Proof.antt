@@ -4,6 +4,7 @@ use mathlib.Core.Bool.{true, false}
 use mathlib.Core.List.{List}
 use lib.Ieee.{Float}
 use borrow.Author.Needs.{needs}
+use Rattle.solver.specs.declared.Solved.{Solved}
 use Rattle.polytope.specs.Polytope.{feasibleOf}
 use Rattle.cell.specs.Cell.{widened}
 use Rattle.cell.proofs.Laws.{met, unmet}
@@ -15,20 +16,20 @@ returns c =
     let a = c .before .before .before .before .before .before .args in
     let s = c .before .before .before .before .before .solution in
     let w = ap (λ (g : List Float). feasibleOf g (a .h .now) 7 (a .slack) (widened (s .result .x))) (c .before .before .before .before .before .before .pre .1) ∙ sym (c .before .feasible .ensures) ∙ c .if2 .taken in
-    λ (o : List Float → Float). met o (a .b .now) (a .g .now) (a .h .now) (a .limit) (a .slack) (a .f) (s .result) _ (s .ensures) (c .before .before .before .before .if1 .taken) true w
+    (ap (λ (t : Solved). t .updates) (s .ensures), λ (o : List Float → Float). met o (a .b .now) (a .g .now) (a .h .now) (a .limit) (a .slack) (a .f) (s .result) _ (s .ensures) (c .before .before .before .before .if1 .taken) true w)
 
 returns-2 : tie.Need-returns-2
 returns-2 c =
     let a = c .before .before .before .before .before .before .args in
     let s = c .before .before .before .before .before .solution in
     let w = ap (λ (g : List Float). feasibleOf g (a .h .now) 7 (a .slack) (widened (s .result .x))) (c .before .before .before .before .before .before .pre .1) ∙ sym (c .before .feasible .ensures) ∙ c .if2 .left in
-    λ (o : List Float → Float). met o (a .b .now) (a .g .now) (a .h .now) (a .limit) (a .slack) (a .f) (s .result) _ (s .ensures) (c .before .before .before .before .if1 .taken) false w
+    (ap (λ (t : Solved). t .updates) (s .ensures), λ (o : List Float → Float). met o (a .b .now) (a .g .now) (a .h .now) (a .limit) (a .slack) (a .f) (s .result) _ (s .ensures) (c .before .before .before .before .if1 .taken) false w)
 
 returns-3 : tie.Need-returns-3
 returns-3 c =
     let a = c .before .before .args in
     let s = c .before .solution in
-    λ (o : List Float → Float). unmet o (a .b .now) (a .g .now) (a .h .now) (a .limit) (a .slack) (a .f) (s .result) _ (s .ensures) (c .if1 .left)
+    (ap (λ (t : Solved). t .updates) (s .ensures), λ (o : List Float → Float). unmet o (a .b .now) (a .g .now) (a .h .now) (a .limit) (a .slack) (a .f) (s .result) _ (s .ensures) (c .if1 .left))
 
 pub candidate-spec : {M : Type 1} → statement M
 candidate-spec =

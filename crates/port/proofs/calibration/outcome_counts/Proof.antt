@@ -19,4 +19,5 @@ outcome-counts-spec =
     (λ c. search needs)
     (λ c. search needs)
     (λ c. search needs)
+    (λ c. search needs)
     returns)

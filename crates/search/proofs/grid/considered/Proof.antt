@@ -14,4 +14,4 @@ unfolding consider
 returns-2 c = rw (sym (c .before .better-than .ensures) ∙ c .if1 .left)
 
 pub considered-spec : {M : Type 1} → statement M
-considered-spec = tie.close (tie.spec (λ c. search needs) (λ c. search needs) (λ c κs. tt) returns returns-2)
+considered-spec = tie.close (tie.spec (λ c. search needs) (λ c. search needs) (λ c. search needs) (λ c κs. tt) returns returns-2)

@@ -5,16 +5,15 @@ use native.Mathlib.Nat.{mul-assoc}
 use Prim.Native.Nat.{_-_, _*_, _≤_}
 use lib.ListN.{length, length-replicate}
 use Rattle.laws.specs.Floats.{+0}
-use Rattle.laws.specs.Loop.{for}
+use Rattle.laws.specs.Loop.{for, sum}
 use Rattle.moves.specs.declared.PassBest.{PassBest}
 use Rattle.search.specs.Search.{noBest, gridRow, passOf}
 use Rattle.search.specs.Run.{fitCell}
 use Rattle.search.specs.Sigmas.{sigmasOf}
-use Rattle.search.specs.Promised.{sum}
-use Rattle.search.proofs.Sums.{sum-most}
-use Rattle.search.proofs.Passes.{CountsTo, facesAt, rows-counts}
+use Rattle.laws.proofs.Sums.{sum-most}
+use Rattle.search.proofs.Passes.{CountsTo, facesAt, updatesOn, rows-counts}
 use Rattle.search.proofs.SearchCounts.{grid-cells}
-use Rattle.search.proofs.FitCells.{fit-most}
+use Rattle.search.proofs.FitCells.{fit-most, fit-few}
 use Rattle.laws.proofs.Loops.{none-yet, one-more, all-done}
 use borrow.Author.Needs.{needs}
 use native.Mathlib.Omega.{arith}
@@ -30,7 +29,7 @@ abbrev μ-loop : tie.MeasureT-loop
 
 loop-holds : tie.Need-loop-holds Inv-loop μ-loop
 loop-holds c =
-    let f : Cell → PassBest = λ x. record { cell = x; i = 0; j = 0; cells = 0; faces = 0 } in
+    let f : Cell → PassBest = λ x. record { cell = x; i = 0; j = 0; cells = 0; faces = 0; updates = 0 } in
     (search needs, ap f (c .before .before .no-cell .ensures) ∙ none-yet _ noBest, length-replicate 256 +0, length-replicate 256 +0)
 
 row-requires : tie.Need-row-requires Inv-loop μ-loop
@@ -41,11 +40,13 @@ row-requires c κs =
     let s = c .before .before .before .before .before .before .before .before .before .before .before in
     let a = s .args in
     let f = fitCell (a .ks .now) (a .ws .now) (a .weights .now) (a .l) in
-    let k : CountsTo f (a .w) (a .n) (l .best) (l .i * a .n) (sum (l .i) (λ i. sum (a .n) (facesAt f (a .w) (a .n) i))) = rw (l .inv .1) (rows-counts f (a .w) (a .n) (l .i)) in
+    let k : CountsTo f (a .w) (a .n) (l .best) (l .i * a .n) (sum (l .i) (λ i. sum (a .n) (facesAt f (a .w) (a .n) i))) (sum (l .i) (λ i. sum (a .n) (updatesOn f (a .w) (a .n) i))) = rw (l .inv .1) (rows-counts f (a .w) (a .n) (l .i)) in
     let m = sum-most (l .i) (a .n * 64) (λ i. sum (a .n) (facesAt f (a .w) (a .n) i)) (λ i h. sum-most (a .n) 64 (facesAt f (a .w) (a .n) i) (λ j h. fit-most (a .ks .now) (a .ws .now) (a .weights .now) (a .l) _ _)) in
+    let u = sum-most (l .i) (a .n * 3438) (λ i. sum (a .n) (updatesOn f (a .w) (a .n) i)) (λ i h. sum-most (a .n) 3438 (updatesOn f (a .w) (a .n) i) (λ j h. fit-few (a .ks .now) (a .ws .now) (a .weights .now) (a .l) _ _)) in
     let g = grid-cells (l .i) (a .n) (l .inv .0) (s .pre) in
     let y : l .i * (a .n * 64) ≡ l .i * a .n * 64 = sym (mul-assoc (l .i) (a .n) 64) in
-    (s .pre, omega (arith, k .cells, g), omega (arith, k .faces, m, g, y), z .ensures, l .inv .2, l .inv .3)
+    let x : l .i * (a .n * 3438) ≡ l .i * a .n * 3438 = sym (mul-assoc (l .i) (a .n) 3438) in
+    (s .pre, omega (arith, k .cells, g), omega (arith, k .faces, m, g, y), omega (arith, k .updates, u, g, x), z .ensures, l .inv .2, l .inv .3)
 
 loop-again : tie.Need-loop-again Inv-loop μ-loop
 loop-again c =

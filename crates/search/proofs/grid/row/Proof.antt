@@ -12,14 +12,13 @@ use Rattle.laws.proofs.Rooms.{filled-at}
 use Rattle.moves.specs.declared.Window.{Window}
 use Rattle.moves.specs.declared.PassBest.{PassBest}
 use Rattle.search.specs.Sigmas.{sigmaAt, sigmasOf}
-use Rattle.laws.specs.Loop.{for}
+use Rattle.laws.specs.Loop.{for, sum}
 use Rattle.moves.specs.Moves.{axisPoint}
 use Rattle.search.specs.Search.{consider, cellAt, gridRow}
 use Rattle.search.specs.Run.{fitCell}
-use Rattle.search.specs.Promised.{sum}
-use Rattle.search.proofs.Sums.{sum-most}
-use Rattle.search.proofs.Passes.{CountsTo, facesAt, row-counts}
-use Rattle.search.proofs.FitCells.{fit-most}
+use Rattle.laws.proofs.Sums.{sum-most}
+use Rattle.search.proofs.Passes.{CountsTo, facesAt, updatesOn, row-counts}
+use Rattle.search.proofs.FitCells.{fit-most, fit-few}
 use Rattle.laws.proofs.Loops.{none-yet, one-more, all-done, for-same}
 use borrow.Author.Needs.{needs}
 use native.Mathlib.Omega.{arith}
@@ -48,7 +47,7 @@ abbrev μ-loop : tie.MeasureT-loop
 loop-holds : tie.Need-loop-holds Inv-loop μ-loop
 loop-holds c =
     let s = c .before .before .before .before in
-    (search needs, none-yet _ _, s .pre .4, s .pre .5)
+    (search needs, none-yet _ _, s .pre .5, s .pre .6)
 
 cell-at-requires : tie.Need-cell-at-requires Inv-loop μ-loop
 cell-at-requires c κs =
@@ -64,12 +63,13 @@ considered-requires c κs =
     let f = fitCell (a .ks .now) (a .ws .now) (a .weights .now) (a .l) in
     let k = row-counts f (a .w) (a .n) (a .i) (a .b) (l .j) in
     let m = sum-most (l .j) 64 (facesAt f (a .w) (a .n) (a .i)) (λ j h. fit-most (a .ks .now) (a .ws .now) (a .weights .now) (a .l) _ _) in
-    let t : c .cell-at .result .faces ≤ 64 =
-    rw (c .cell-at .ensures .0, same-cell (a .sigmas .now) (a .w) (a .n) (a .i) (a .ks .now) (a .ws .now) (a .weights .now) (a .l) _ (s .pre .0) (s .pre .3) (p .linspace-at .ensures) (l .j) (c .before .before .before .before .loop-test .taken))
-    (fit-most (a .ks .now) (a .ws .now) (a .weights .now) (a .l) _ _) in
-    let e : CountsTo f (a .w) (a .n) (l .best) (a .b .cells + l .j) (a .b .faces + sum (l .j) (facesAt f (a .w) (a .n) (a .i))) =
-    rw (l .inv .1, same-row (a .sigmas .now) (a .w) (a .n) (a .i) (a .ks .now) (a .ws .now) (a .weights .now) (a .l) _ (s .pre .0) (s .pre .3) (p .linspace-at .ensures) (l .j) (a .b) (l .inv .0)) k in
-    omega (arith, s .pre .0, s .pre .1, s .pre .2, e .cells, e .faces, m, t, l .inv .0)
+    let u = sum-most (l .j) 3438 (updatesOn f (a .w) (a .n) (a .i)) (λ j h. fit-few (a .ks .now) (a .ws .now) (a .weights .now) (a .l) _ _) in
+    let is = c .cell-at .ensures .0 ∙ same-cell (a .sigmas .now) (a .w) (a .n) (a .i) (a .ks .now) (a .ws .now) (a .weights .now) (a .l) _ (s .pre .0) (s .pre .4) (p .linspace-at .ensures) (l .j) (c .before .before .before .before .loop-test .taken) in
+    let v : c .cell-at .result .updates ≤ 3438 = rw is (fit-few (a .ks .now) (a .ws .now) (a .weights .now) (a .l) _ _) in
+    let t : c .cell-at .result .faces ≤ 64 = rw is (fit-most (a .ks .now) (a .ws .now) (a .weights .now) (a .l) _ _) in
+    let e : CountsTo f (a .w) (a .n) (l .best) (a .b .cells + l .j) (a .b .faces + sum (l .j) (facesAt f (a .w) (a .n) (a .i))) (a .b .updates + sum (l .j) (updatesOn f (a .w) (a .n) (a .i))) =
+    rw (l .inv .1, same-row (a .sigmas .now) (a .w) (a .n) (a .i) (a .ks .now) (a .ws .now) (a .weights .now) (a .l) _ (s .pre .0) (s .pre .4) (p .linspace-at .ensures) (l .j) (a .b) (l .inv .0)) k in
+    omega (arith, s .pre .0, s .pre .1, s .pre .2, s .pre .3, e .cells, e .faces, e .updates, m, u, t, v, l .inv .0)
 
 loop-again : tie.Need-loop-again Inv-loop μ-loop
 loop-again c =
@@ -84,7 +84,7 @@ returns c =
     let p = c .before .before in
     let s = p .before .before .before .before in
     let a = s .args in
-    (all-done _ _ (omega arith) (l .inv .1 ∙ same-row (a .sigmas .now) (a .w) (a .n) (a .i) (a .ks .now) (a .ws .now) (a .weights .now) (a .l) _ (s .pre .0) (s .pre .3) (p .linspace-at .ensures) (l .j) (a .b) (l .inv .0)), l .inv .2, l .inv .3)
+    (all-done _ _ (omega arith) (l .inv .1 ∙ same-row (a .sigmas .now) (a .w) (a .n) (a .i) (a .ks .now) (a .ws .now) (a .weights .now) (a .l) _ (s .pre .0) (s .pre .4) (p .linspace-at .ensures) (l .j) (a .b) (l .inv .0)), l .inv .2, l .inv .3)
 
 pub row-spec : {M : Type 1} → statement M
 row-spec =
@@ -98,7 +98,7 @@ row-spec =
     (λ c. omega arith)
     cell-at-requires
     considered-requires
-    (λ c. omega arith)
+    (λ c. omega (arith, c .before .before .before .before .before .before .before .before .before .before .before .pre .0))
     (λ c. omega arith)
     loop-again
     returns)
