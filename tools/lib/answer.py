@@ -2,7 +2,7 @@
 
   read R kept K
   fit tau a b rho m sigma            floats are the 16 hex digits of their bits
-  search passes recentres shrinks cells faces
+  search passes recentres shrinks cells faces updates      the last is the solver's work (docs/HOUSE.md)
   margins objective objective_params lee_margin a_margin rmse_vol
   active 0000000                     seven marks in constraint order
   capped N position ..
@@ -17,7 +17,7 @@ from collections import namedtuple
 
 from words import shown
 
-SEARCH = ("passes", "recentres", "shrinks", "cells", "faces")
+SEARCH = ("passes", "recentres", "shrinks", "cells", "faces", "updates")
 FIT = ("tau", "a", "b", "rho", "m", "sigma")
 MARGINS = ("objective", "objective_params", "lee_margin", "a_margin", "rmse_vol")
 CONSTRAINTS = (

@@ -69,7 +69,7 @@ def answer_to(quotes, tau=0.25, read=None, capped=(), active="0000010", a=0.01):
     lines = [
         f"read {read or len(quotes)} kept {len(quotes)}",
         "fit " + " ".join(map(digits, (tau, a, 0.1, -0.25, 0.0, 0.5))),
-        "search 13 0 12 5733 51534",
+        "search 13 0 12 5733 51534 1234567",
         "margins " + " ".join(map(digits, (1e-6, 1e-6, 1.875, 0.0099, 0.005))),
         f"active {active}",
         " ".join(["capped", str(len(capped)), *map(str, capped)]),

@@ -103,7 +103,7 @@ class Plot(Case):
         self.assertEqual((self.count(root, "retry"), self.count(root, "clash")), (2 + 1, 2 + 1))
 
     def test_refusals_show_the_quotes_and_say_why(self):
-        root, texts = self.parts(self.svg(HOUSE_OF_SIX, "read 6 kept 6\nsearch 1 0 0 441 28224\nrefused 7 0 0\n"))
+        root, texts = self.parts(self.svg(HOUSE_OF_SIX, "read 6 kept 6\nsearch 1 0 0 441 28224 987654\nrefused 7 0 0\n"))
         self.assertEqual((self.count(root, "curve"), self.count(root, "quote")), (0, 7))
         whole = " ".join(texts)
         self.assertIn("REFUSED 7", texts)
@@ -193,7 +193,7 @@ class InABrowser(Case):
         "malformed.house": "refused 43 0 0\n",
         "bad-quote.house": "read 7 kept 7\nrefused 10 0 0\n",
         "no-span.house": "read 6 kept 6\nrefused 4 0 0\n",
-        "grid-edge.house": "read 8 kept 8\nsearch 13 0 12 5733 334782\nrefused 7 0 0\n",
+        "grid-edge.house": "read 8 kept 8\nsearch 13 0 12 5733 334782 1234567\nrefused 7 0 0\n",
         "clash.house": "read 8 kept 8\nrefused 44 0 0\n",
     }
 

@@ -18,7 +18,7 @@ class Read(Case):
         lines = text.split("\n")
         self.assertEqual(lines[0], "FITTED: 6 quotes, 0.50 vol points rmse")
         self.assertEqual(lines[1], "9 records read, 6 kept, 3 retries dropped")
-        self.assertEqual(lines[2], "search      13 passes, 0 recentres, 12 shrinks, 5,733 cells, 51,534 faces")
+        self.assertEqual(lines[2], "search      13 passes, 0 recentres, 12 shrinks, 5,733 cells, 51,534 faces, 1,234,567 updates")
         self.assertIn("rho         -0.25\n", text)
         self.assertIn("lee_margin        1.875\n", text)
         self.assertIn("at a bound  a_min (a is at its lower bound)\n", text)
@@ -30,7 +30,7 @@ class Read(Case):
         self.assertEqual(out["verdict"], "fitted")
         self.assertEqual((out["read"], out["kept"]), (6, 6))
         self.assertEqual(out["fit"], {"tau": 0.25, "a": 0.01, "b": 0.1, "rho": -0.25, "m": 0.0, "sigma": 0.5})
-        self.assertEqual(out["search"], {"passes": 13, "recentres": 0, "shrinks": 12, "cells": 5733, "faces": 51534})
+        self.assertEqual(out["search"], {"passes": 13, "recentres": 0, "shrinks": 12, "cells": 5733, "faces": 51534, "updates": 1234567})
         self.assertEqual(out["margins"]["rmse_vol"], 0.005)
         self.assertEqual((out["active"], out["capped"]), (["flat slice", "a_max"], [1]))
         self.assertEqual(out["points"][3], {"k": SIX[3][1], "w": SIX[3][2], "fitted": SIX[3][2] - 0.001, "residual": 0.0025})
@@ -41,9 +41,9 @@ class Read(Case):
             ("read 2 kept 1\nrefused 3 1 5\n", "REFUSED 3: too few quotes: 1 left, 5 needed\n2 records read, 1 kept, 1 retry dropped\n"),
             ("refused 43 0 0\n", "REFUSED 43: not a house file\nwhy "),
             ("read 8 kept 8\nrefused 44 0 0\n", "REFUSED 44: one number with two contents\n8 records read, 8 kept\nwhy         two records have one quote number, but "),
-            ("read 7 kept 7\nsearch 1 0 0 441 28224\nrefused 7 0 0\n", "REFUSED 7: the best curve is on the edge of the search\n7 records read, 7 kept\n"),
-            (f"read 7 kept 7\nsearch 1 0 0 441 28224\nrefused 9 {digits(0.0356)} {digits(0.02)}\n", "REFUSED 9: the quotes lie too far from any curve: 3.56 vol points, 2.00 allowed\n"),
-            (f"read 7 kept 7\nsearch 1 0 0 441 28224\nrefused 9 7ff8000000000000 {digits(0.02)}\n", "REFUSED 9: the quotes lie too far from any curve: not a number, 2.00 allowed\n"),
+            ("read 7 kept 7\nsearch 1 0 0 441 28224 987654\nrefused 7 0 0\n", "REFUSED 7: the best curve is on the edge of the search\n7 records read, 7 kept\n"),
+            (f"read 7 kept 7\nsearch 1 0 0 441 28224 987654\nrefused 9 {digits(0.0356)} {digits(0.02)}\n", "REFUSED 9: the quotes lie too far from any curve: 3.56 vol points, 2.00 allowed\n"),
+            (f"read 7 kept 7\nsearch 1 0 0 441 28224 987654\nrefused 9 7ff8000000000000 {digits(0.02)}\n", "REFUSED 9: the quotes lie too far from any curve: not a number, 2.00 allowed\n"),
         ):
             self.assertTrue(self.read(text).startswith(words), self.read(text))
         for number in (1, 2, 4, 5, 10, 11, 44):
@@ -54,8 +54,8 @@ class Read(Case):
     def test_refusals_as_json(self):
         out = self.json("read 9 kept 1\nrefused 3 1 5\n")
         self.assertEqual((out["verdict"], out["number"], out["observed"], out["required"]), ("refused", 3, 1, 5))
-        out = self.json(f"read 7 kept 7\nsearch 1 0 0 441 28224\nrefused 9 7ff8000000000000 {digits(0.02)}\n")
-        self.assertEqual((out["rmse_vol"], out["max_rmse_vol"], out["search"]["faces"]), (None, 0.02, 28224))
+        out = self.json(f"read 7 kept 7\nsearch 1 0 0 441 28224 987654\nrefused 9 7ff8000000000000 {digits(0.02)}\n")
+        self.assertEqual((out["rmse_vol"], out["max_rmse_vol"], out["search"]["faces"], out["search"]["updates"]), (None, 0.02, 28224, 987654))
         self.assertEqual(self.json("refused 43 0 0\n")["read"], None)
         out = self.json("read 8 kept 8\nrefused 44 0 0\n")
         self.assertEqual((out["number"], out["read"], out["kept"], out["words"]), (44, 8, 8, "one number with two contents"))
@@ -78,7 +78,11 @@ class Read(Case):
             ("read six kept 6\n", "line 1: 'six' is not a count"),
             ("read 6 left 6\n", "line 1: 'kept' should stand after the number read"),
             (good.replace("fit 3fd", "fit 3FD"), "line 2: '3FD0000000000000' is not 16 hex digits"),
-            (good.replace("search 13", "search"), "line 3: 'search' has 4 values, wanted are 5"),
+            (good.replace(" 51534 1234567", " 51534"), "line 3: 'search' has 5 values, wanted are 6"),  # as a program without updates prints it
+            (good.replace(" 51534 1234567", " 51534 1234567 0"), "line 3: 'search' has 7 values, wanted are 6"),
+            (good.replace(" 1234567", " -1"), "line 3: '-1' is not a count"),
+            ("read 7 kept 7\nsearch 1 0 0 441 28224\nrefused 7 0 0\n", "line 2: 'search' has 5 values, wanted are 6"),
+            ("read 7 kept 7\nsearch 1 0 0 441 28224 987654 0\nrefused 7 0 0\n", "line 2: 'search' has 7 values, wanted are 6"),
             (good.replace("active 0", "active 2"), "line 5: '2000010' is not seven digits 0 or 1"),
             (good.replace("capped 0", "capped 1"), "line 6: the count of capped quotes and the positions after it differ"),
             (good.replace("capped 0", "capped 1 6"), "line 6: a position that is not below 6"),
@@ -86,7 +90,7 @@ class Read(Case):
             (good + "more\n", "line 13: 'more' after the end of the answer"),
             ("refused 45 0 0\n", "line 1: 45 is not a refusal of the program"),
             ("refused 44 0 0\n", "line 1: a refusal 44 does not stand here"),
-            ("read 1 kept 1\nsearch 1 0 0 441 28224\nrefused 44 0 0\n", "line 3: a refusal 44 does not stand here"),
+            ("read 1 kept 1\nsearch 1 0 0 441 28224 987654\nrefused 44 0 0\n", "line 3: a refusal 44 does not stand here"),
             ("refused 3 1 5\n", "line 1: a refusal 3 does not stand here"),
             ("read 1 kept 1\nrefused 7 0 0\n", "line 2: a refusal 7 does not stand here"),
             ("read 1 kept 1\nrefused 3 1 5\nrefused 3 1 5\n", "line 3: 'refused 3 1 5' after the end of the answer"),
