@@ -67,7 +67,7 @@ static void look_at_answer(void) {
     const char *p = strchr(answer, '\n') + 1;
     if (!strncmp(p, "fit", 3)) {
         p = whole(p, "fit", 6, 1);
-        p = whole(p, "search", 5, 0);
+        p = whole(p, "search", 6, 0);
         p = whole(p, "margins", 5, 1);
         if (strncmp(p, "active ", 7) || strspn(p + 7, "01") != 7 || p[14] != '\n') abort();
         p += 15;
@@ -79,7 +79,7 @@ static void look_at_answer(void) {
         return;
     }
     int searched = !strncmp(p, "search", 6);
-    if (searched) p = whole(p, "search", 5, 0);
+    if (searched) p = whole(p, "search", 6, 0);
     unsigned number;
     if (sscanf(p, "refused %u ", &number) != 1) abort();
     if (searched != (number >= 6 && number <= 9)) abort();
