@@ -193,7 +193,7 @@ class InABrowser(Case):
         "malformed.house": "refused 43 0 0\n",
         "bad-quote.house": "read 7 kept 7\nrefused 10 0 0\n",
         "no-span.house": "read 6 kept 6\nrefused 4 0 0\n",
-        "grid-edge.house": "read 8 kept 8\nsearch 13 0 12 5733 334782 1234567\nrefused 7 0 0\n",
+        "grid-edge.house": "read 8 kept 8\nsearch 13 0 12 5733 334782 13706029\nrefused 7 0 0\n",
         "clash.house": "read 8 kept 8\nrefused 44 0 0\n",
     }
 
