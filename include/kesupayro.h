@@ -31,7 +31,7 @@ extern "C" {
 
 /* This header's number. It changes with every layout or meaning that a caller could notice, and docs/ABI.md says what changed with each.
  * A program that was compiled with one header and linked with another library can tell: port_abi() is the library's number. */
-#define PORT_ABI 2
+#define PORT_ABI 3
 uint32_t port_abi(void);
 
 /* What `number` says. */
@@ -108,9 +108,9 @@ typedef struct {
     double max_weight_ratio;      /* a weight above this many times the median counts as that much */
 } PortFitConfig;
 
-/* What the search did. */
+/* What the search did. updates is the solver's work: how many matrix entries its eliminations updated (port_solve says which count), at most 3,438 a cell. */
 typedef struct {
-    uint64_t passes, recentres, shrinks, cells, faces;
+    uint64_t passes, recentres, shrinks, cells, faces, updates;
 } PortCounts;
 
 /* The answer of a fit. Of a refusal every field is 0 but the number, the values that belong to it, and counts for 6 to 9. */
@@ -218,13 +218,14 @@ typedef struct {
     double a_min, a_max, pivot_tolerance, feasibility_tolerance;
 } PortLimits;
 
-/* One point (m, sigma) of the search: whether a face qualifies, the best one's objective, (a, d, c) and constraints, and the faces tried. */
+/* One point (m, sigma) of the search: whether a face qualifies, the best one's objective, (a, d, c) and constraints, the faces tried, and the matrix entries that
+ * were updated to try them. */
 typedef struct {
     bool some;
     double objective;
     double x[3];
     bool active[7];
-    uint64_t faces;
+    uint64_t faces, updates;
 } PortCell;
 
 /* ---- what the library exports, beside those below whose name has no raw_: numbers and pointers only. For other languages; C programs take the functions
@@ -234,17 +235,17 @@ typedef struct {
 /* sizes: grid, refinements, max_recentres, min_observations. reals: sigma_lo, sigma_hi, a_min, max_rmse_vol, pivot_tolerance, feasibility_tolerance, max_weight_ratio. */
 void port_raw_default_config(uint64_t sizes[4], double reals[7]);
 
-/* counts: observed, required, passes, recentres, shrinks, cells, faces, capped.
+/* counts: observed, required, passes, recentres, shrinks, cells, faces, updates, capped.
  * values: rmse_vol, max_rmse_vol, tau, a, b, rho, m, sigma, k_range.lo, k_range.hi, objective, objective_params, lee_margin, a_margin. */
 uint32_t port_raw_fit_slice(double tau, const uint64_t sizes[4], const double reals[7], const double *k, uint64_t k_count, const double *w, uint64_t w_count,
                             const double *weight, uint64_t weight_count, double *residuals, uint64_t residuals_count, uint64_t *capped, uint64_t capped_count,
-                            uint64_t counts[8], double values[14], bool active[7]);
+                            uint64_t counts[9], double values[14], bool active[7]);
 
 /* quotes: 32 bytes each, as in a house file (number, then the bits of k, w and weight, the low byte first); a length that is no multiple of 32 is refused with 12.
- * counts: read, kept, then the eight of port_raw_fit_slice. */
+ * counts: read, kept, then the nine of port_raw_fit_slice. */
 uint32_t port_raw_fit_quotes(double tau, const uint64_t sizes[4], const double reals[7], const uint8_t *quotes, uint64_t quotes_count,
                              double *residuals, uint64_t residuals_count, uint64_t *capped, uint64_t capped_count,
-                             uint64_t counts[10], double values[14], bool active[7]);
+                             uint64_t counts[11], double values[14], bool active[7]);
 
 /* A slice is a row: tau, a, b, rho, m, sigma, k_range.lo, k_range.hi. Where many are lent, they are records, one after the other. */
 uint32_t port_raw_k_range(double lo, double hi, double range[2]);
@@ -268,10 +269,10 @@ void port_raw_check_record(PortCheck *check, double k, double tau, double value,
 uint32_t port_raw_check_clean(const uint64_t counts[3], const double worst[3]);
 uint32_t port_raw_report_clean(const uint64_t counts[10], const double worst[9]);
 
-/* limits: a_min, a_max, pivot_tolerance, feasibility_tolerance. values: objective, then the three of x. */
-uint32_t port_raw_solve(const double m[36], const double rhs[6], uint64_t n, double tol, double x[6]);
+/* limits: a_min, a_max, pivot_tolerance, feasibility_tolerance. counts: faces, updates. values: objective, then the three of x. */
+uint32_t port_raw_solve(const double m[36], const double rhs[6], uint64_t n, double tol, double x[6], uint64_t updates[1]);
 uint32_t port_raw_cell(const double *k, uint64_t k_count, const double *w, uint64_t w_count, const double *scaled, uint64_t scaled_count,
-                       const double limits[4], double m, double sigma, uint64_t faces[1], double values[4], bool active[7]);
+                       const double limits[4], double m, double sigma, uint64_t counts[2], double values[4], bool active[7]);
 
 /* ---- the packing: records to rows and back */
 
@@ -294,12 +295,13 @@ static inline PortSviSlice port_unpack_slice(const double row[8])
     return s;
 }
 
-static inline void port_unpack_fit(PortFitAnswer *a, uint32_t number, const uint64_t counts[8], const double values[14])
+static inline void port_unpack_fit(PortFitAnswer *a, uint32_t number, const uint64_t counts[9], const double values[14])
 {
     a->number = number;
     a->observed = counts[0], a->required = counts[1];
-    a->counts.passes = counts[2], a->counts.recentres = counts[3], a->counts.shrinks = counts[4], a->counts.cells = counts[5], a->counts.faces = counts[6];
-    a->capped = counts[7];
+    a->counts.passes = counts[2], a->counts.recentres = counts[3], a->counts.shrinks = counts[4];
+    a->counts.cells = counts[5], a->counts.faces = counts[6], a->counts.updates = counts[7];
+    a->capped = counts[8];
     a->rmse_vol = values[0], a->max_rmse_vol = values[1];
     a->slice = port_unpack_slice(values + 2);
     a->objective = values[10], a->objective_params = values[11], a->lee_margin = values[12], a->a_margin = values[13];
@@ -346,7 +348,8 @@ static inline PortFitConfig port_default_config(void)
  * two numbers, and both count. SO EACH QUOTE NEEDS A NUMBER OF ITS OWN: one number with two contents is refused with 44, after 12, 11 and 10, before a repeat is dropped.
  * An accepted fit writes four numbers for each quote kept to `residuals` (k, w, fitted w, quoted minus fitted volatility), in order, and the positions among
  * those kept whose weight was capped, rising, to `capped`. It wants room for 4 x count and count, whatever is kept. With the default settings it tries at most
- * 2,624,832 faces, which is a second or so; the largest settings allow 4,758 times as many, so look at the settings that you pass on from others. */
+ * 2,624,832 faces and updates at most 141,002,694 matrix entries, which is a second or so; the largest settings allow 4,758 times as many, so look at the settings
+ * that you pass on from others. */
 static inline PortQuotesAnswer port_fit_quotes(double tau, PortFitConfig config, const PortQuote *quotes, size_t count,
                                                double *residuals, size_t residuals_count, uint64_t *capped, size_t capped_count)
 {
@@ -354,7 +357,7 @@ static inline PortQuotesAnswer port_fit_quotes(double tau, PortFitConfig config,
 #error "PortQuote is handed over as it lies in memory, the low byte first"
 #endif
     PortQuotesAnswer a;
-    uint64_t sizes[4], counts[10], most = UINT64_MAX / 32;
+    uint64_t sizes[4], counts[11], most = UINT64_MAX / 32;
     double reals[7], values[14];
     port_pack_config(config, sizes, reals);
     uint32_t number = port_raw_fit_quotes(tau, sizes, reals, (const uint8_t *)quotes, (count < most ? count : most) * 32,
@@ -370,7 +373,7 @@ static inline PortFitAnswer port_fit_slice(double tau, PortFitConfig config, con
                                            uint64_t *capped, size_t capped_count)
 {
     PortFitAnswer a;
-    uint64_t sizes[4], counts[8];
+    uint64_t sizes[4], counts[9];
     double reals[7], values[14];
     port_pack_config(config, sizes, reals);
     uint32_t number = port_raw_fit_slice(tau, sizes, reals, k, k_count, w, w_count, weight, weight_count, residuals, residuals_count, capped, capped_count,
@@ -547,20 +550,26 @@ static inline bool port_report_clean(PortSurfaceDiagnostics report)
 
 /* ---- inside the fit, for those who compare */
 
-/* Solves m x = rhs in n unknowns, 1 to 6: the first n rows and columns of a 6 by 6 matrix, row by row. Where it says false x is six zeros. */
-static inline bool port_solve(const double m[36], const double rhs[6], size_t n, double tol, double x[6])
+/* Solves m x = rhs in n unknowns, 1 to 6: the first n rows and columns of a 6 by 6 matrix, row by row. Where it says false x is six zeros.
+ * updates[0] is always written, as x is: how many entries of the matrix the elimination updated. A row below a pivot whose factor is not 0 counts its entries from the
+ * pivot's column on, that column included and the right side not: at most n (n n - 1) / 3, which is 8, 20, 40 and 70 for n from 3 to 6. Where it says false, what was
+ * updated before counts; that is 0 where n is 0 or above 6, and where the largest magnitude in the matrix, NaN passed over, is 0 or infinite. */
+static inline bool port_solve(const double m[36], const double rhs[6], size_t n, double tol, double x[6], uint64_t updates[1])
 {
-    return port_raw_solve(m, rhs, n, tol, x) != 0;
+    return port_raw_solve(m, rhs, n, tol, x, updates) != 0;
 }
 
-/* Over at most 256 quotes, three columns of one length; else nothing qualifies and no face is tried. */
+/* Over at most 256 quotes, three columns of one length; else nothing qualifies and no face is tried. updates is the sum over the faces tried: at most 8 where the
+ * first is enough, else 3,438. */
 static inline PortCell port_cell(const double *k, size_t k_count, const double *w, size_t w_count, const double *scaled, size_t scaled_count,
                                  PortLimits limits, double m, double sigma)
 {
     PortCell c;
+    uint64_t counts[2];
     double row[4], values[4];
     row[0] = limits.a_min, row[1] = limits.a_max, row[2] = limits.pivot_tolerance, row[3] = limits.feasibility_tolerance;
-    c.some = port_raw_cell(k, k_count, w, w_count, scaled, scaled_count, row, m, sigma, &c.faces, values, c.active) != 0;
+    c.some = port_raw_cell(k, k_count, w, w_count, scaled, scaled_count, row, m, sigma, counts, values, c.active) != 0;
+    c.faces = counts[0], c.updates = counts[1];
     c.objective = values[0], c.x[0] = values[1], c.x[1] = values[2], c.x[2] = values[3];
     return c;
 }
