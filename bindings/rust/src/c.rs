@@ -38,7 +38,7 @@ extern "C" {
         residuals_count: usize,
         capped: *mut usize,
         capped_count: usize,
-        counts: &mut [usize; 8],
+        counts: &mut [usize; 9],
         values: &mut [f64; 14],
         active: &mut [bool; 7],
     ) -> u32;
@@ -52,7 +52,7 @@ extern "C" {
         residuals_count: usize,
         capped: *mut usize,
         capped_count: usize,
-        counts: &mut [usize; 10],
+        counts: &mut [usize; 11],
         values: &mut [f64; 14],
         active: &mut [bool; 7],
     ) -> u32;
@@ -95,7 +95,7 @@ extern "C" {
     fn port_raw_check_record(check: &mut Check, k: f64, tau: f64, value: f64, tolerance: f64);
     fn port_raw_check_clean(counts: &[usize; 3], worst: &[f64; 3]) -> u32;
     fn port_raw_report_clean(counts: &[usize; 10], worst: &[f64; 9]) -> u32;
-    fn port_raw_solve(m: &[f64; 36], rhs: &[f64; 6], n: usize, tol: f64, x: &mut [f64; 6]) -> u32;
+    fn port_raw_solve(m: &[f64; 36], rhs: &[f64; 6], n: usize, tol: f64, x: &mut [f64; 6], updates: &mut [usize; 1]) -> u32;
     fn port_raw_cell(
         k: *const f64,
         k_count: usize,
@@ -106,7 +106,7 @@ extern "C" {
         limits: &[f64; 4],
         m: f64,
         sigma: f64,
-        faces: &mut [usize; 1],
+        counts: &mut [usize; 2],
         values: &mut [f64; 4],
         active: &mut [bool; 7],
     ) -> u32;
@@ -116,7 +116,7 @@ extern "C" {
 const _: () = assert!(std::mem::size_of::<SviSlice>() == 64 && std::mem::size_of::<Check>() == 48);
 
 /// The ABI number that this crate was written for.
-pub const ABI: u32 = 2;
+pub const ABI: u32 = 3;
 
 /// The ABI number of the library.
 #[inline]
@@ -185,8 +185,8 @@ pub fn default_config(sizes: &mut [usize; 4], reals: &mut [f64; 7]) {
     unsafe { port_raw_default_config(sizes, reals) }
 }
 
-/// The fit of three columns. `counts`: observed, required, passes, recentres, shrinks, cells, faces, capped; `values`: rmse_vol, max_rmse_vol, the
-/// slice as [`SviSlice::row`] has it, objective, objective_params, lee_margin, a_margin.
+/// The fit of three columns. `counts`: observed, required, passes, recentres, shrinks, cells, faces, updates, capped; `values`: rmse_vol,
+/// max_rmse_vol, the slice as [`SviSlice::row`] has it, objective, objective_params, lee_margin, a_margin.
 #[inline]
 pub fn fit_slice(
     tau: f64,
@@ -197,7 +197,7 @@ pub fn fit_slice(
     weight: &[f64],
     residuals: &mut [f64],
     capped: &mut [usize],
-    counts: &mut [usize; 8],
+    counts: &mut [usize; 9],
     values: &mut [f64; 14],
     active: &mut [bool; 7],
 ) -> u32 {
@@ -234,7 +234,7 @@ pub fn fit_quotes(
     quotes: &[u8],
     residuals: &mut [f64],
     capped: &mut [usize],
-    counts: &mut [usize; 10],
+    counts: &mut [usize; 11],
     values: &mut [f64; 14],
     active: &mut [bool; 7],
 ) -> u32 {
@@ -421,15 +421,17 @@ pub fn report_clean(counts: &[usize; 10], worst: &[f64; 9]) -> u32 {
     unsafe { port_raw_report_clean(counts, worst) }
 }
 
-/// Solves m x = rhs in n unknowns, 1 to 6: the first n rows and columns of a 6 by 6 matrix, row by row.
+/// Solves m x = rhs in n unknowns, 1 to 6: the first n rows and columns of a 6 by 6 matrix, row by row. `updates`: the matrix entries that the
+/// elimination updated, before a refusal too.
 #[inline]
-pub fn solve(m: &[f64; 36], rhs: &[f64; 6], n: usize, tol: f64, x: &mut [f64; 6]) -> u32 {
+pub fn solve(m: &[f64; 36], rhs: &[f64; 6], n: usize, tol: f64, x: &mut [f64; 6], updates: &mut [usize; 1]) -> u32 {
     same_abi();
     // SAFETY: as in `run`.
-    unsafe { port_raw_solve(m, rhs, n, tol, x) }
+    unsafe { port_raw_solve(m, rhs, n, tol, x, updates) }
 }
 
-/// One point of the search; 1 where a face qualifies. `limits`: a_min, a_max, pivot_tolerance, feasibility_tolerance; `values`: objective, a, d, c.
+/// One point of the search; 1 where a face qualifies. `limits`: a_min, a_max, pivot_tolerance, feasibility_tolerance; `counts`: faces, updates;
+/// `values`: objective, a, d, c.
 #[inline]
 pub fn cell(
     k: &[f64],
@@ -438,13 +440,13 @@ pub fn cell(
     limits: &[f64; 4],
     m: f64,
     sigma: f64,
-    faces: &mut [usize; 1],
+    counts: &mut [usize; 2],
     values: &mut [f64; 4],
     active: &mut [bool; 7],
 ) -> u32 {
     same_abi();
     // SAFETY: as in `run`.
-    unsafe { port_raw_cell(k.as_ptr(), k.len(), w.as_ptr(), w.len(), scaled.as_ptr(), scaled.len(), limits, m, sigma, faces, values, active) }
+    unsafe { port_raw_cell(k.as_ptr(), k.len(), w.as_ptr(), w.len(), scaled.as_ptr(), scaled.len(), limits, m, sigma, counts, values, active) }
 }
 
 #[cfg(test)]

@@ -148,6 +148,8 @@ pub struct Counts {
     pub shrinks: usize,
     pub cells: usize,
     pub faces: usize,
+    /// The solver's work: how many matrix entries its eliminations updated ([`Solved`] says which count), at most 3,438 a cell.
+    pub updates: usize,
 }
 
 /// The answer of [`fit_slice`]. Of a refusal every field is 0 but the number, the values that belong to it, and the counts of 6 to 9.
@@ -178,8 +180,8 @@ pub struct FitAnswer {
 
 impl FitAnswer {
     /// From the rows that [`c::fit_slice`] lists.
-    fn of_rows(number: u32, counts: [usize; 8], values: [f64; 14], active: [bool; 7]) -> Self {
-        let [observed, required, passes, recentres, shrinks, cells, faces, capped] = counts;
+    fn of_rows(number: u32, counts: [usize; 9], values: [f64; 14], active: [bool; 7]) -> Self {
+        let [observed, required, passes, recentres, shrinks, cells, faces, updates, capped] = counts;
         let [rmse_vol, max_rmse_vol, tau, a, b, rho, m, sigma, lo, hi, objective, objective_params, lee_margin, a_margin] = values;
         Self {
             number,
@@ -193,7 +195,7 @@ impl FitAnswer {
             lee_margin,
             a_margin,
             active,
-            counts: Counts { passes, recentres, shrinks, cells, faces },
+            counts: Counts { passes, recentres, shrinks, cells, faces, updates },
             capped,
         }
     }
@@ -203,7 +205,7 @@ impl FitAnswer {
 /// minus fitted volatility) and the positions whose weight was capped to `capped`: room for 4 n and n. It drops no repeat: [`fit_quotes`] does.
 pub fn fit_slice(tau: f64, config: FitConfig, k: &[f64], w: &[f64], weight: &[f64], residuals: &mut [f64], capped: &mut [usize]) -> FitAnswer {
     let (sizes, reals) = config.rows();
-    let (mut counts, mut values, mut active) = ([0; 8], [0.0; 14], [false; 7]);
+    let (mut counts, mut values, mut active) = ([0; 9], [0.0; 14], [false; 7]);
     let number = c::fit_slice(tau, &sizes, &reals, k, w, weight, residuals, capped, &mut counts, &mut values, &mut active);
     FitAnswer::of_rows(number, counts, values, active)
 }
@@ -223,7 +225,7 @@ pub struct QuotesAnswer {
 /// those of the quotes kept. It wants room for every quote that came in: 4 n and n. One number with two contents is 44, after 12, 11 and 10.
 pub fn fit_quotes(tau: f64, config: FitConfig, quotes: &[Quote], residuals: &mut [f64], capped: &mut [usize]) -> QuotesAnswer {
     let (sizes, reals) = config.rows();
-    let (mut counts, mut values, mut active) = ([0; 10], [0.0; 14], [false; 7]);
+    let (mut counts, mut values, mut active) = ([0; 11], [0.0; 14], [false; 7]);
     let number = c::fit_quotes(tau, &sizes, &reals, bytes(quotes), residuals, capped, &mut counts, &mut values, &mut active);
     let [read, kept, of_fit @ ..] = counts;
     QuotesAnswer { read, kept, fit: FitAnswer::of_rows(number, of_fit, values, active) }
@@ -259,18 +261,31 @@ pub struct Cell {
     pub active: [bool; 7],
     /// Faces tried.
     pub faces: usize,
+    /// Matrix entries updated to try them.
+    pub updates: usize,
+}
+
+/// The answer of [`solve`].
+#[derive(Debug, Clone, Copy, PartialEq)]
+pub struct Solved {
+    /// The n unknowns, then zeros; nothing where the system is refused.
+    pub x: Option<[f64; 6]>,
+    /// How many entries of the matrix the elimination updated, before a refusal too. A row below a pivot whose factor is not 0 counts its entries from
+    /// the pivot's column on, that column included and the right side not: at most n (n n - 1) / 3, which is 8, 20, 40 and 70 for n from 3 to 6.
+    pub updates: usize,
 }
 
 /// Solves m x = rhs in n unknowns, 1 to 6: the first n rows and columns of a 6 by 6 matrix, row by row.
-pub fn solve(m: &[f64; 36], rhs: &[f64; 6], n: usize, tol: f64) -> Option<[f64; 6]> {
-    let mut x = [0.0; 6];
-    (c::solve(m, rhs, n, tol, &mut x) != 0).then_some(x)
+pub fn solve(m: &[f64; 36], rhs: &[f64; 6], n: usize, tol: f64) -> Solved {
+    let (mut x, mut updates) = ([0.0; 6], [0]);
+    let solved = c::solve(m, rhs, n, tol, &mut x, &mut updates) != 0;
+    Solved { x: solved.then_some(x), updates: updates[0] }
 }
 
 /// The point (m, sigma) of the search over at most 256 quotes, three columns of one length; else nothing qualifies and no face is tried.
 pub fn cell(k: &[f64], w: &[f64], scaled: &[f64], limits: Limits, m: f64, sigma: f64) -> Cell {
-    let (mut faces, mut values, mut active) = ([0], [0.0; 4], [false; 7]);
-    let some = c::cell(k, w, scaled, &limits.row(), m, sigma, &mut faces, &mut values, &mut active) != 0;
-    let ([faces], [objective, x @ ..]) = (faces, values);
-    Cell { some, objective, x, active, faces }
+    let (mut counts, mut values, mut active) = ([0; 2], [0.0; 4], [false; 7]);
+    let some = c::cell(k, w, scaled, &limits.row(), m, sigma, &mut counts, &mut values, &mut active) != 0;
+    let ([faces, updates], [objective, x @ ..]) = (counts, values);
+    Cell { some, objective, x, active, faces, updates }
 }

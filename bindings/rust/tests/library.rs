@@ -1,6 +1,6 @@
 //! The library through the safe functions: good and bad input.
 
-use kesupayro::{abi, answer, c, fit, raw, FitConfig, Quote, Refused, ABI, MOST_QUOTES};
+use kesupayro::{abi, answer, c, fit, raw, Counts, FitConfig, Quote, Refused, ABI, MOST_QUOTES};
 
 /// Nine quotes off a smile.
 fn smile() -> Vec<Quote> {
@@ -139,9 +139,33 @@ fn short_room_for_a_fit_is_left_as_it_was() {
     // Bytes that are not whole quotes, which only the export itself can be handed.
     let (mut sizes, mut reals) = ([0; 4], [0.0; 7]);
     c::default_config(&mut sizes, &mut reals);
-    let (mut counts, mut values, mut active) = ([7; 10], [7.0; 14], [true; 7]);
+    let (mut counts, mut values, mut active) = ([7; 11], [7.0; 14], [true; 7]);
     let number = c::fit_quotes(0.5, &sizes, &reals, &[0; 33], &mut [0.0; 8], &mut [0; 2], &mut counts, &mut values, &mut active);
-    assert_eq!((number, counts, values, active), (12, [0; 10], [0.0; 14], [false; 7]));
+    assert_eq!((number, counts, values, active), (12, [0; 11], [0.0; 14], [false; 7]));
+}
+
+/// A cell tries one face or 64, and its eliminations update at most 8 or 3,438 entries.
+fn within_the_bounds(c: Counts) -> bool {
+    let all = (c.faces - c.cells) / 63;
+    c.faces == c.cells + 63 * all && c.updates <= 8 * (c.cells - all) + 3438 * all
+}
+
+#[test]
+fn the_solvers_work_is_counted() {
+    let (quotes, config) = (smile(), FitConfig::default());
+    let fitted = fit(0.5, None, &quotes).unwrap().counts;
+    assert!(fitted.updates > 0 && within_the_bounds(fitted), "{fitted:?}");
+    // The search of a refusal is the same search; before it nothing was done.
+    let counts = |config: FitConfig, quotes: &[Quote]| {
+        let (mut residuals, mut capped) = (vec![0.0; 4 * quotes.len()], vec![0; quotes.len()]);
+        let answer = raw::fit_quotes(0.5, config, quotes, &mut residuals, &mut capped).fit;
+        (answer.number, answer.counts)
+    };
+    assert_eq!(counts(FitConfig { max_rmse_vol: 1e-9, ..config }, &quotes), (9, fitted));
+    assert_eq!(counts(config, &quotes[..4]), (3, Counts::default()));
+    let level: Vec<Quote> = quotes.iter().map(|q| Quote { w: 0.01, ..*q }).collect();
+    let (number, edge) = counts(config, &level);
+    assert!(number == 7 && edge.updates > 0 && within_the_bounds(edge), "{edge:?}");
 }
 
 #[test]
@@ -182,5 +206,5 @@ fn elementary_functions() {
 
 #[test]
 fn the_abi_number() {
-    assert_eq!((abi(), ABI), (2, 2));
+    assert_eq!((abi(), ABI), (3, 3));
 }

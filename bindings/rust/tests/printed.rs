@@ -1,7 +1,7 @@
 //! Two ways to one answer: quotes handed over as they are, and the same quotes as a house file, whose answer is printed. Every number is compared.
 
 use kesupayro::raw::{self, FitAnswer, QuotesAnswer};
-use kesupayro::{answer, fit, Fit, FitConfig, Quote, Refused};
+use kesupayro::{answer, fit, Counts, Fit, FitConfig, Quote, Refused};
 use std::path::Path;
 
 /// Takes bytes from the front.
@@ -61,13 +61,18 @@ fn line(name: &str, words: impl IntoIterator<Item = String>) -> String {
     std::iter::once(name.to_string()).chain(words).collect::<Vec<_>>().join(" ") + "\n"
 }
 
+/// What the search did, as the program prints it.
+fn search(c: Counts) -> String {
+    line("search", [c.passes, c.recentres, c.shrinks, c.cells, c.faces, c.updates].map(|n| n.to_string()))
+}
+
 /// What `fit` says of an accepted file, as the program prints it.
 fn accepted(f: &Fit) -> String {
-    let (s, c) = (f.slice, f.counts);
+    let s = f.slice;
     let digits = f.active.iter().map(|on| if *on { '1' } else { '0' }).collect();
     let mut text = format!("read {} kept {}\n", f.read, f.kept);
     text += &line("fit", [s.tau, s.a, s.b, s.rho, s.m, s.sigma].map(hex));
-    text += &line("search", [c.passes, c.recentres, c.shrinks, c.cells, c.faces].map(|n| n.to_string()));
+    text += &search(f.counts);
     text += &line("margins", [f.objective, f.objective_params, f.lee_margin, f.a_margin, f.rmse_vol].map(hex));
     text += &line("active", [digits]);
     text += &line("capped", std::iter::once(f.capped.len()).chain(f.capped.iter().copied()).map(|n| n.to_string()));
@@ -79,7 +84,6 @@ fn accepted(f: &Fit) -> String {
 
 /// The same of a refusal, for which what is read, kept and searched comes from the raw answer.
 fn refused(why: Refused, raw: &QuotesAnswer) -> String {
-    let c = raw.fit.counts;
     let mut text = format!("read {} kept {}\n", raw.read, raw.kept);
     let (number, values) = match why {
         Refused::Settings => (1, None),
@@ -97,7 +101,7 @@ fn refused(why: Refused, raw: &QuotesAnswer) -> String {
     };
     assert_eq!(number, raw.fit.number);
     if (6..=9).contains(&number) {
-        text += &line("search", [c.passes, c.recentres, c.shrinks, c.cells, c.faces].map(|n| n.to_string()));
+        text += &search(raw.fit.counts);
     }
     let [x, y] = values.unwrap_or(["0", "0"].map(String::from));
     text + &format!("refused {number} {x} {y}\n")
@@ -140,6 +144,8 @@ fn same(path: &Path) -> u32 {
             assert!(residuals.iter().all(|x| *x == -7.0) && capped.iter().all(|n| *n == 77));
         }
     }
+    // What every search costs at most: 3,438 a cell, where all faces are tried.
+    assert!(raw.fit.counts.updates <= 3438 * raw.fit.counts.cells, "{}: {:?}", path.display(), raw.fit.counts);
     raw.fit.number
 }
 

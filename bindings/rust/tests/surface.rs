@@ -68,8 +68,34 @@ fn points_and_tallies() {
 fn inside_the_fit() {
     let mut m = [0.0; 36];
     (m[0], m[7], m[14]) = (2.0, 4.0, 8.0);
-    assert_eq!(raw::solve(&m, &[2.0, 8.0, 8.0, 0.0, 0.0, 0.0], 3, 1e-12), Some([1.0, 2.0, 1.0, 0.0, 0.0, 0.0]));
-    assert_eq!(raw::solve(&m, &[0.0; 6], 7, 1e-12), None);
+    let solved = raw::Solved { x: Some([1.0, 2.0, 1.0, 0.0, 0.0, 0.0]), updates: 0 };
+    assert_eq!(raw::solve(&m, &[2.0, 8.0, 8.0, 0.0, 0.0, 0.0], 3, 1e-12), solved);
+    assert_eq!(raw::solve(&m, &[0.0; 6], 7, 1e-12), raw::Solved { x: None, updates: 0 });
     let limits = raw::Limits { a_min: 1e-8, a_max: 1.0, pivot_tolerance: 1e-12, feasibility_tolerance: 1e-12 };
-    assert!(!raw::cell(&[0.0; 5], &[0.0; 4], &[0.0; 5], limits, 0.0, 1.0).some);
+    let unequal = raw::cell(&[0.0; 5], &[0.0; 4], &[0.0; 5], limits, 0.0, 1.0);
+    assert!(!unequal.some && unequal.faces == 0 && unequal.updates == 0);
+}
+
+#[test]
+fn updates_of_the_solver() {
+    let asked = |m: &[f64; 36], n: usize| {
+        let s = raw::solve(m, &[1.0, 2.0, 3.0, 4.0, 5.0, 6.0], n, 1e-12);
+        (s.x.is_some(), s.updates)
+    };
+    // No factor is 0: as many as there can be, n (n n - 1) / 3.
+    let dense: [f64; 36] = std::array::from_fn(|i| if i % 7 == 0 { 8.0 } else { 1.0 });
+    assert_eq!([1, 2, 3, 4, 5, 6].map(|n| asked(&dense, n)), [0, 2, 8, 20, 40, 70].map(|most| (true, most)));
+    assert_eq!([0, 7, usize::MAX].map(|n| asked(&dense, n)), [(false, 0); 3]);
+    // A row whose factor is 0 is passed over: the last one alone, three entries and then two.
+    let mut skipped = dense;
+    skipped[6] = 0.0;
+    assert_eq!(asked(&skipped, 3), (true, 5));
+    // Refused at the second column, after five rows of six; refused for its scale, before the first.
+    for (entry, updates) in [(1.0, 30), (0.0, 0), (f64::INFINITY, 0), (f64::NAN, 0)] {
+        assert_eq!(asked(&[entry; 36], 6), (false, updates));
+    }
+    // A NaN is a pivot like another, and what it touches counts.
+    let mut unknown = dense;
+    unknown[0] = f64::NAN;
+    assert_eq!(asked(&unknown, 6), (false, 70));
 }
