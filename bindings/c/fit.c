@@ -58,12 +58,20 @@ static int refused(PortFitAnswer a, uint32_t number)
     return plain && slice && counts && sums && untouched();
 }
 
+/* A cell tries one face or 64, and its eliminations update at most 8 or 3,438 matrix entries. */
+static int within_bounds(PortCounts c)
+{
+    uint64_t all = (c.faces - c.cells) / 63;
+    return c.faces == c.cells + 63 * all && c.updates <= 8 * (c.cells - all) + 3438 * all;
+}
+
 static void layouts(void)
 {
-    EXPECT(sizeof(PortKRange) == 16 && sizeof(PortSviSlice) == 64 && sizeof(PortFitConfig) == 88 && sizeof(PortCounts) == 40);
+    EXPECT(sizeof(PortKRange) == 16 && sizeof(PortSviSlice) == 64 && sizeof(PortFitConfig) == 88 && sizeof(PortCounts) == 48);
+    EXPECT(offsetof(PortCounts, faces) == 32 && offsetof(PortCounts, updates) == 40);
     EXPECT(sizeof(PortQuote) == 32 && offsetof(PortQuote, k) == 8 && offsetof(PortQuote, w) == 16 && offsetof(PortQuote, weight) == 24);
-    EXPECT(sizeof(PortFitAnswer) == 192 && offsetof(PortFitAnswer, slice) == 40 && offsetof(PortFitAnswer, active) == 136);
-    EXPECT(offsetof(PortFitAnswer, counts) == 144 && offsetof(PortFitAnswer, capped) == 184);
+    EXPECT(sizeof(PortFitAnswer) == 200 && offsetof(PortFitAnswer, slice) == 40 && offsetof(PortFitAnswer, active) == 136);
+    EXPECT(offsetof(PortFitAnswer, counts) == 144 && offsetof(PortFitAnswer, capped) == 192 && sizeof(PortQuotesAnswer) == 216);
 }
 
 static void elementary(void)
@@ -96,6 +104,7 @@ static void fits(void)
     EXPECT(a.number == PORT_FITTED && a.slice.tau == 0.5 && a.rmse_vol < 0.001);
     EXPECT(a.slice.k_range.lo == k[0] && a.slice.k_range.hi == k[8]);
     EXPECT(a.counts.passes > 0 && a.counts.cells == a.counts.passes * 21 * 21 && a.counts.faces >= a.counts.cells);
+    EXPECT(a.counts.updates > 0 && a.counts.updates <= 3438 * a.counts.cells && within_bounds(a.counts));
     EXPECT(a.capped == 1 && capped[0] == 4 && capped[1] == mark_count);
     int rows = 1;
     for (int i = 0; i < 9; i++) {
@@ -138,7 +147,7 @@ static void refusals(void)
     EXPECT(refused(fit(NAN, bad, 9), PORT_REFUSED_SETTINGS));
     EXPECT(refused(fit(0, c, 9), PORT_REFUSED_TAU) && refused(fit(NAN, c, 9), PORT_REFUSED_TAU) && refused(fit(INFINITY, c, 9), PORT_REFUSED_TAU));
     PortFitAnswer a = fit(0.5, c, 4);
-    EXPECT(a.number == PORT_REFUSED_TOO_FEW && a.observed == 4 && a.required == 5 && a.counts.passes == 0 && untouched());
+    EXPECT(a.number == PORT_REFUSED_TOO_FEW && a.observed == 4 && a.required == 5 && a.counts.passes == 0 && a.counts.updates == 0 && untouched());
     a = fit(0.5, c, 0);
     EXPECT(a.number == PORT_REFUSED_TOO_FEW && a.observed == 0 && untouched());
     for (int i = 0; i < 9; i++)
@@ -151,14 +160,18 @@ static void refusals(void)
         w[i] = i % 2 ? 1e200 : 2e200;
     a = fit(0.5, c, 9);
     EXPECT(a.number == PORT_REFUSED_NO_FACE && a.counts.passes == 1 && a.counts.cells == 441 && untouched());
+    EXPECT(a.counts.faces == 441 * 64 && a.counts.updates > 0 && within_bounds(a.counts));
     quotes(9);
     for (int i = 0; i < 9; i++)
         w[i] = 0.01;
     a = fit(0.25, c, 9);
-    EXPECT(a.number == PORT_REFUSED_GRID_EDGE && a.counts.passes > 0 && untouched());
+    EXPECT(a.number == PORT_REFUSED_GRID_EDGE && a.counts.passes > 0 && a.counts.updates > 0 && within_bounds(a.counts) && untouched());
     quotes(9), bad = c, bad.max_rmse_vol = 1e-9;
     a = fit(0.5, bad, 9);
     EXPECT(a.number == PORT_REFUSED_RMSE && a.rmse_vol > 1e-9 && a.max_rmse_vol == 1e-9 && a.counts.passes > 0 && untouched());
+    /* the search of a fit that is refused for its residuals is that of the fit that is accepted */
+    PortFitAnswer accepted = fit(0.5, c, 9);
+    EXPECT(accepted.number == PORT_FITTED && a.counts.updates > 0 && memcmp(&a.counts, &accepted.counts, sizeof a.counts) == 0);
 }
 
 /* The columns as quotes, each sent `times` times, with buffers full of marks. */
@@ -228,11 +241,13 @@ static void quotes_as_sent(void)
     a = fit_sent(0.5, bad, 18);
     EXPECT(a.read == 18 && a.kept == 9 && refused(a.fit, PORT_REFUSED_SETTINGS) && refused(fit_sent(0, c, 18).fit, PORT_REFUSED_TAU));
     /* bytes that are no whole quotes, as another language may hand them over */
-    uint64_t sizes[4], counts[10];
+    uint64_t sizes[4], counts[11];
     double reals[7], values[14];
     bool active[7];
     port_pack_config(c, sizes, reals);
     EXPECT(port_raw_fit_quotes(0.5, sizes, reals, (const uint8_t *)sent, 32 * 9 - 1, residuals, 72, capped, 18, counts, values, active) == PORT_REFUSED_LENGTHS && untouched());
+    for (int i = 0; i < 11; i++)
+        EXPECT(counts[i] == 0);
 }
 
 /* What two dealers quote alike comes under two numbers, and both count: the answer is that of all columns. */

@@ -426,12 +426,18 @@ static void inside(void)
             rhs[j] = word() % 3 ? (double)(word() % 7) - 3 : any();
         size_t n = i % 100 ? word() % 9 : (size_t)1 << (word() % 64);
         const double *pm = reading(m, sizeof m), *pr = reading(rhs, sizeof rhs);
-        double *x = marked(48);
-        bool ok = port_solve(pm, pr, n, word() % 3 ? 1e-12 : any(), x);
+        double *x = marked(48), scale = 0;
+        uint64_t *updates = marked(8);
+        bool ok = port_solve(pm, pr, n, word() % 3 ? 1e-12 : any(), x, updates);
         int good = !ok || (n >= 1 && n <= 6);
         for (size_t j = 0; j < 6; j++)
             good &= ok && j < n ? isfinite(x[j]) : x[j] == 0;
-        if (!(good && safe()))
+        for (size_t j = 0; j < 36; j++)
+            scale = j / 6 < n && j % 6 < n ? fmax(scale, fabs(m[j])) : scale;
+        /* nothing is updated where the size or the scale is refused; else no more than a matrix without zeros allows */
+        good &= n <= 6 && isfinite(scale) && scale > 0 ? 3 * *updates <= n * (n * n - 1) : !ok && *updates == 0;
+        good &= safe();
+        if (!good)
             EXPECT(0);
     }
     static const size_t counts[] = {0, 1, 5, 255, 256, 257};
@@ -446,6 +452,7 @@ static void inside(void)
                 PortLimits limits = {any(), any(), any(), any()};
                 PortCell c = port_cell(k, n, w, q, t, n, limits, odd[o], any());
                 EXPECT((n == q && n <= 256 ? c.faces == 1 || c.faces == 64 : !c.some && c.faces == 0) && safe());
+                EXPECT(c.updates <= (c.faces == 64 ? 3438 : c.faces == 1 ? 8 : 0));
             }
     passed++;
 }
@@ -532,7 +539,8 @@ static void nulls(void)
     EXPECT(port_diagnose(two, 2, 0, NULL, 0, NULL, 0, config, NULL, 0).number == PORT_REFUSED_K_AXIS);
     EXPECT(port_diagnose(two, 2, 0, &one, 1, &one, 1, config, NULL, 0).number == PORT_REFUSED_LENGTHS);
     PortLimits limits = {0, 0, 0, 0};
-    EXPECT(port_cell(NULL, 0, NULL, 0, NULL, 0, limits, 0, 1).faces > 0);
+    PortCell none = port_cell(NULL, 0, NULL, 0, NULL, 0, limits, 0, 1);
+    EXPECT(none.faces == 64 && none.updates == 119); /* as the published Rust */
 }
 
 /* ---- beyond what the header promises: told, and tried, so that a change shows */

@@ -18,7 +18,8 @@ static void layouts(void)
 {
     EXPECT(sizeof(PortRangeAnswer) == 24 && sizeof(PortSliceAnswer) == 72 && sizeof(PortLevelAnswer) == 16 && sizeof(PortValuesAnswer) == 32);
     EXPECT(sizeof(PortTotalAnswer) == 40 && sizeof(PortBracketAnswer) == 32 && sizeof(PortRegionAnswer) == 8 && sizeof(PortCoversAnswer) == 8);
-    EXPECT(sizeof(PortCheck) == 48 && sizeof(PortSurfaceDiagnostics) == 152 && sizeof(PortDiagnosedAnswer) == 160 && sizeof(PortCell) == 56);
+    EXPECT(sizeof(PortCheck) == 48 && sizeof(PortSurfaceDiagnostics) == 152 && sizeof(PortDiagnosedAnswer) == 160 && sizeof(PortCell) == 64);
+    EXPECT(offsetof(PortCell, active) == 40 && offsetof(PortCell, faces) == 48 && offsetof(PortCell, updates) == 56);
 }
 
 static void ranges(void)
@@ -164,13 +165,69 @@ static void diagnostics(void)
     EXPECT(check.points == 2 && check.violations == 1 && check.worst.at.k == 1 && !port_check_clean(check));
 }
 
+/* A system of n unknowns is solved, or refused, after so many updates of entries; the right side has no part in them. */
+static int counted(const double m[36], size_t n, bool solved, uint64_t updates)
+{
+    static const double rhs[2][6] = {{1, 2, 3, 4, 5, 6}, {0}};
+    int good = 1;
+    for (int i = 0; i < 2; i++) {
+        double x[6];
+        uint64_t found = 7777;
+        good &= port_solve(m, rhs[i], n, 1e-12, x, &found) == solved && found == updates;
+    }
+    return good;
+}
+
+/* How often the elimination updates an entry of the matrix. */
+static void updates(void)
+{
+    double unit[36], dense[36], same[36], m[36];
+    for (int i = 0; i < 36; i++)
+        unit[i] = i % 7 == 0, dense[i] = i % 7 == 0 ? 8 : 1, same[i] = 1;
+    /* every factor is 0; none is: n (n n - 1) / 3 */
+    static const uint64_t most[] = {0, 0, 2, 8, 20, 40, 70};
+    for (size_t n = 1; n <= 6; n++)
+        EXPECT(counted(unit, n, true, 0) && counted(dense, n, true, most[n]));
+    EXPECT(counted(dense, 0, false, 0) && counted(dense, 7, false, 0) && counted(dense, SIZE_MAX, false, 0));
+    /* a row whose factor is 0, or -0, is passed over: the last one alone is worked on, three entries and then two */
+    memcpy(m, dense, sizeof m), m[6] = 0;
+    EXPECT(counted(m, 3, true, 5));
+    m[6] = -0.0;
+    EXPECT(counted(m, 3, true, 5));
+    /* the row that comes up as the pivot is not below it: the other two are worked on, then one of them */
+    memcpy(m, dense, sizeof m), m[12] = 16;
+    EXPECT(counted(m, 3, true, 8));
+    /* no pivot in the second column: what was updated in the first counts */
+    for (size_t n = 2; n <= 6; n++)
+        EXPECT(counted(same, n, false, n * (n - 1)));
+    /* no pivot in the first column; none in the last, its row being the sum of the others, or a copy of the first, which the first column clears */
+    memcpy(m, dense, sizeof m), m[0] = m[6] = m[12] = 0;
+    EXPECT(counted(m, 3, false, 0));
+    memcpy(m, dense, sizeof m), m[12] = m[13] = 9, m[14] = 2;
+    EXPECT(counted(m, 3, false, 8));
+    memcpy(m, dense, sizeof m), m[12] = 8, m[13] = m[14] = 1;
+    EXPECT(counted(m, 3, false, 6));
+    /* refused for its scale: nothing is begun */
+    memset(m, 0, sizeof m);
+    EXPECT(counted(m, 6, false, 0));
+    m[8] = INFINITY;
+    EXPECT(counted(m, 6, false, 0));
+    for (int i = 0; i < 36; i++)
+        m[i] = NAN;
+    EXPECT(counted(m, 6, false, 0));
+    /* a NaN is a pivot like another, and every row below it is worked on; the system is refused at its end */
+    memcpy(m, dense, sizeof m), m[0] = NAN;
+    EXPECT(counted(m, 3, false, 8) && counted(m, 6, false, 70));
+}
+
 static void inside(void)
 {
     double m[36] = {0}, rhs[6] = {2, 8, 8, 0, 0, 0}, x[6];
+    uint64_t updated;
     m[0] = 2, m[7] = 4, m[14] = 8;
-    EXPECT(port_solve(m, rhs, 3, 1e-12, x) && x[0] == 1 && x[1] == 2 && x[2] == 1 && x[3] == 0);
-    EXPECT(!port_solve(m, rhs, 4, 1e-12, x) && x[0] == 0);
-    EXPECT(!port_solve(m, rhs, 0, 1e-12, x) && !port_solve(m, rhs, 7, 1e-12, x));
+    EXPECT(port_solve(m, rhs, 3, 1e-12, x, &updated) && x[0] == 1 && x[1] == 2 && x[2] == 1 && x[3] == 0 && updated == 0);
+    EXPECT(!port_solve(m, rhs, 4, 1e-12, x, &updated) && x[0] == 0);
+    EXPECT(!port_solve(m, rhs, 0, 1e-12, x, &updated) && !port_solve(m, rhs, 7, 1e-12, x, &updated));
 
     double k[9], w[9], scaled[9];
     for (int i = 0; i < 9; i++) {
@@ -180,8 +237,15 @@ static void inside(void)
     PortLimits limits = {1e-8, 1, 1e-12, 1e-12};
     PortCell c = port_cell(k, 9, w, 9, scaled, 9, limits, 0.05, 0.2);
     EXPECT(c.some && c.faces == 1 && c.objective < 1e-30 && fabs(c.x[0] - 0.04) < 1e-12 && fabs(c.x[1] + 0.003) < 1e-12);
+    EXPECT(c.updates == 8);
     c = port_cell(k, 9, w, 8, scaled, 9, limits, 0.05, 0.2);
-    EXPECT(!c.some && c.faces == 0);
+    EXPECT(!c.some && c.faces == 0 && c.updates == 0);
+    /* quotes that curve down, so that all faces are tried, and about m, so that factors are 0; then not about m: what the published Rust updates */
+    static const double strikes[5] = {-2, -1, 0, 1, 2}, down[5] = {0, 0.1875, 0.25, 0.1875, 0}, ones[5] = {1, 1, 1, 1, 1};
+    c = port_cell(strikes, 5, down, 5, ones, 5, limits, 0, 1);
+    EXPECT(c.some && c.faces == 64 && c.objective == 0.0546875 && c.updates == 1823);
+    c = port_cell(strikes, 5, down, 5, ones, 5, limits, 0.25, 1);
+    EXPECT(c.some && c.faces == 64 && c.updates == 2673);
 }
 
 static void *all(void *nothing)
@@ -191,6 +255,7 @@ static void *all(void *nothing)
     points();
     surfaces();
     diagnostics();
+    updates();
     inside();
     return nothing;
 }
