@@ -1,12 +1,12 @@
-//! The five counts of a search. The counted copy of the Rust calls these; each thread counts for itself.
+//! The six counts of a search. The counted copy of the Rust calls these; each thread counts for itself.
 
 use std::cell::Cell;
 
-/// passes, recentres, shrinks, cells, faces
-pub type Counts = [u64; 5];
+/// passes, recentres, shrinks, cells, faces, updates
+pub type Counts = [u64; 6];
 
 thread_local! {
-    static COUNTS: Cell<Counts> = const { Cell::new([0; 5]) };
+    static COUNTS: Cell<Counts> = const { Cell::new([0; 6]) };
 }
 
 fn add(at: usize) {
@@ -37,7 +37,12 @@ pub fn face() {
     add(4);
 }
 
+/// One entry of a matrix, updated by the elimination.
+pub fn update() {
+    add(5);
+}
+
 /// The counts since they were last taken.
 pub fn take() -> Counts {
-    COUNTS.with(|c| c.replace([0; 5]))
+    COUNTS.with(|c| c.replace([0; 6]))
 }

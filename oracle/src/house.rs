@@ -1,4 +1,4 @@
-//! The house file and the printed answer, written from document 01 ("House file and print") with the repeats of document 02 (M-101), and the Rust's fit in between.
+//! The house file and the printed answer, written from document 01 ("House file and print") with document 02's repeats (M-101) and sixth count (M-102), and the Rust's fit in between.
 
 use crate::counts;
 use std::fmt::Write;
@@ -363,7 +363,7 @@ fn answered(file: &[u8], kept: impl Fn(&[Record]) -> Option<Vec<Record>>) -> Ans
 }
 
 fn told(house: House, kept: impl Fn(&[Record]) -> Option<Vec<Record>>) -> Told {
-    let early = |number: u32, house: House| Told { kept: house.records.len(), house, verdict: Verdict::Refused(number), counts: [0; 5] };
+    let early = |number: u32, house: House| Told { kept: house.records.len(), house, verdict: Verdict::Refused(number), counts: [0; 6] };
     if house.settings.as_ref().is_some_and(over_a_size) {
         return early(11, house);
     }

@@ -2,7 +2,7 @@
 
 /// ln, exp and hypot of the Rust's side.
 pub mod elementary;
-/// The five counts of a search.
+/// The six counts of a search.
 pub mod counts;
 /// The house file and the printed answer, written from documents 01 and 02.
 pub mod house;
@@ -29,7 +29,7 @@ pub mod types;
 #[path = "../../target/oracle/plain/surface.rs"]
 pub mod plain;
 
-/// The Rust with five counters.
+/// The Rust with six counters.
 #[allow(dead_code, private_interfaces, rustdoc::all)]
 #[path = "../../target/oracle/counted/surface.rs"]
 pub mod counted;

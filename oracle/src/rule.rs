@@ -46,7 +46,7 @@ pub fn same_float(a: f64, b: f64) -> bool {
 }
 
 const FIT: &[&str] = &["tau", "a", "b", "rho", "m", "sigma"];
-const SEARCH: &[&str] = &["passes", "recentres", "shrinks", "cells", "faces"];
+const SEARCH: &[&str] = &["passes", "recentres", "shrinks", "cells", "faces", "updates"];
 const MARGINS: &[&str] = &["objective", "objective_params", "lee_margin", "a_margin", "rmse_vol"];
 const POINT: &[&str] = &["k", "observed w", "fitted w", "vol residual"];
 

@@ -1,8 +1,8 @@
-//! The solver and single cells of the search: the port beside the Rust, on systems where pivots tie and on data where faces do.
+//! The solver and single cells of the search, and the matrix entries that both update: the port beside the Rust, on systems where pivots tie and on data where faces do.
 
 use kesupayro::c;
 use kesupayro::raw::{self, Limits};
-use oracle::counted::calibrate::{FitConfig, SliceObservation, inner};
+use oracle::counted::calibrate::{FitConfig, SliceObservation, inner, solve_linear};
 use oracle::random::Random;
 use oracle::{counts, plain, rule, work};
 
@@ -48,23 +48,38 @@ fn system(r: &mut Random, n: usize) -> ([f64; 36], [f64; 6], f64) {
     (m, rhs, tol)
 }
 
-/// Whether the port says that it solved a system, 1 or 0, and what it wrote of six unknowns.
-fn solution(m: &[f64; 36], rhs: &[f64; 6], n: usize, tol: f64) -> (u32, [f64; 6]) {
-    let mut x = [7.0; 6];
-    (c::solve(m, rhs, n, tol, &mut x), x)
+/// What one question showed: whether there was a solution, the entries that the Rust updated, and what was wrong.
+struct Shown {
+    some: bool,
+    updates: u64,
+    wrong: Option<String>,
 }
 
-fn solved(r: &mut Random) -> (bool, Option<String>) {
+/// Whether the port says that it solved a system, 1 or 0, what it wrote of six unknowns, and how many entries it says were updated.
+fn solution(m: &[f64; 36], rhs: &[f64; 6], n: usize, tol: f64) -> (u32, [f64; 6], usize) {
+    let (mut x, mut updates) = ([7.0; 6], [7_777_777]);
+    (c::solve(m, rhs, n, tol, &mut x, &mut updates), x, updates[0])
+}
+
+fn solved(r: &mut Random) -> Shown {
     let n = r.from_to(1, 6);
     let (m, rhs, tol) = system(r, n);
-    let rows = m.chunks(6).take(n).map(|row| row[..n].to_vec()).collect();
-    let rust = plain::calibrate::solve_linear(rows, rhs[..n].to_vec(), tol);
-    let (ok, x) = solution(&m, &rhs, n, tol);
+    let rows: Vec<Vec<f64>> = m.chunks(6).take(n).map(|row| row[..n].to_vec()).collect();
+    let rust = plain::calibrate::solve_linear(rows.clone(), rhs[..n].to_vec(), tol);
+    counts::take();
+    let counted = solve_linear(rows, rhs[..n].to_vec(), tol);
+    let updates = counts::take()[5];
+    let bits = |x: &Option<Vec<f64>>| x.as_ref().map(|x| x.iter().map(|v| v.to_bits()).collect::<Vec<_>>());
+    assert_eq!(bits(&rust), bits(&counted), "the counted copy of the Rust answers otherwise");
+    let (ok, x, port) = solution(&m, &rhs, n, tol);
     let found = rust.as_deref().unwrap_or(&[]);
     // Beyond the solution, and where there is none, the port leaves zeros.
-    let same = ok == u32::from(rust.is_some()) && x.iter().zip(found).all(|(a, b)| rule::same_float(*a, *b)) && x[found.len()..].iter().all(|v| v.to_bits() == 0);
-    let wrong = (!same).then(|| format!("system {n} {m:?} {rhs:?} {tol:e}: port {ok} {x:?} rust {rust:?}"));
-    (rust.is_some(), wrong)
+    let same = ok == u32::from(rust.is_some())
+        && x.iter().zip(found).all(|(a, b)| rule::same_float(*a, *b))
+        && x[found.len()..].iter().all(|v| v.to_bits() == 0)
+        && port as u64 == updates;
+    let wrong = (!same).then(|| format!("system {n} {m:?} {rhs:?} {tol:e}: port {ok} {x:?} updates {port} rust {rust:?} updates {updates}"));
+    Shown { some: rust.is_some(), updates, wrong }
 }
 
 /// Observations of a cell: a lattice, a smile with noise, any size, or with values that are not finite. Weights at most 1.
@@ -86,7 +101,7 @@ fn observations(r: &mut Random) -> Vec<[f64; 3]> {
         .collect()
 }
 
-fn cell(r: &mut Random) -> (bool, Option<String>) {
+fn cell(r: &mut Random) -> Shown {
     let obs = observations(r);
     let column = |i: usize| obs.iter().map(|o| o[i]).collect::<Vec<f64>>();
     let (k, w, t) = (column(0), column(1), column(2));
@@ -102,10 +117,10 @@ fn cell(r: &mut Random) -> (bool, Option<String>) {
     let data: Vec<_> = obs.iter().map(|&[k, w, weight]| SliceObservation { k, w, weight }).collect();
     counts::take();
     let rust = inner(&data, m, sigma, a_max, &config);
-    let faces = counts::take()[4] as usize;
+    let [.., faces, updates] = counts::take();
     let limits = Limits { a_min, a_max, pivot_tolerance, feasibility_tolerance };
     let port = raw::cell(&k, &w, &t, limits, m, sigma);
-    let same = port.faces == faces
+    let same = (port.faces as u64, port.updates as u64) == (faces, updates)
         && match &rust {
             None => !port.some,
             Some(c) => {
@@ -115,18 +130,18 @@ fn cell(r: &mut Random) -> (bool, Option<String>) {
                     && (0..7).all(|i| port.active[i] == c.active.contains(&i))
             }
         };
-    let wrong = (!same).then(|| format!("cell {obs:?} {limits:?} m {m:e} sigma {sigma:e}: port {port:?} rust {rust:?} faces {faces}"));
-    (rust.is_some(), wrong)
+    let wrong = (!same).then(|| format!("cell {obs:?} {limits:?} m {m:e} sigma {sigma:e}: port {port:?} rust {rust:?} faces {faces} updates {updates}"));
+    Shown { some: rust.is_some(), updates, wrong }
 }
 
 /// What only the port can be asked: sizes that it refuses, columns of unequal or too great length.
 fn out_of_range() -> usize {
-    let sizes = [0, 7, 8, usize::MAX].into_iter().filter(|n| solution(&[1.0; 36], &[1.0; 6], *n, 1e-12) != (0, [0.0; 6]));
+    let sizes = [0, 7, 8, usize::MAX].into_iter().filter(|n| solution(&[1.0; 36], &[1.0; 6], *n, 1e-12) != (0, [0.0; 6], 0));
     let column = [0.0; 257];
     let limits = Limits { a_min: 0.1, a_max: 1.0, pivot_tolerance: 1e-12, feasibility_tolerance: 1e-12 };
     let lengths = [[257; 3], [5, 4, 5], [5, 5, 6]].into_iter().filter(|[k, w, t]| {
         let c = raw::cell(&column[..*k], &column[..*w], &column[..*t], limits, 0.0, 1.0);
-        c.some || c.faces != 0
+        c.some || c.faces != 0 || c.updates != 0
     });
     let (sizes, lengths): (Vec<_>, Vec<_>) = (sizes.collect(), lengths.collect());
     if !sizes.is_empty() || !lengths.is_empty() {
@@ -145,12 +160,14 @@ fn main() {
         stop(format!("what is {}?", words.rest[0]));
     }
     let mut different = out_of_range();
-    let mut run = |what: &'static str, count: usize, one: fn(&mut Random) -> (bool, Option<String>)| {
+    let mut run = |what: &'static str, count: usize, one: fn(&mut Random) -> Shown| {
         let progress = work::Progress::new(what, count);
-        let mut answered = 0;
-        work::each(count, jobs, |i| one(&mut Random::new(seed, i as u64)), |i, (some, wrong)| {
-            answered += usize::from(some);
-            if let Some(what) = wrong {
+        let (mut answered, mut updates, mut most) = (0, 0, 0);
+        work::each(count, jobs, |i| one(&mut Random::new(seed, i as u64)), |i, shown| {
+            answered += usize::from(shown.some);
+            updates += shown.updates;
+            most = most.max(shown.updates);
+            if let Some(what) = shown.wrong {
                 different += 1;
                 if different <= 10 {
                     progress.end();
@@ -160,7 +177,7 @@ fn main() {
             progress.at(i + 1, "compared");
         });
         progress.end();
-        println!("seed {seed}: {count} {what}, {answered} of them with a solution, in {:.0} s", progress.seconds());
+        println!("seed {seed}: {count} {what}, {answered} of them with a solution, {updates} entries updated, {most} at most, in {:.0} s", progress.seconds());
     };
     run("systems", count, solved);
     run("cells", count / 10, cell);

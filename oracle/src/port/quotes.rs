@@ -8,14 +8,14 @@ use kesupayro::c;
 /// An answer as the port has it, with the two buffers that it was lent.
 struct Rows {
     number: u32,
-    counts: [usize; 10],
+    counts: [usize; 11],
     values: [f64; 14],
     active: [bool; 7],
     residuals: Vec<f64>,
     capped: Vec<usize>,
 }
 
-const COUNTS: [&str; 10] = ["read", "kept", "observed", "required", "passes", "recentres", "shrinks", "cells", "faces", "capped"];
+const COUNTS: [&str; 11] = ["read", "kept", "observed", "required", "passes", "recentres", "shrinks", "cells", "faces", "updates", "capped"];
 const VALUES: [&str; 14] = [
     "rmse_vol",
     "max_rmse_vol",
@@ -37,7 +37,7 @@ const VALUES: [&str; 14] = [
 fn nothing(count: usize) -> Rows {
     Rows {
         number: 0,
-        counts: [COUNT; 10],
+        counts: [COUNT; 11],
         values: [FLOAT; 14],
         active: [true; 7],
         residuals: vec![FLOAT; 4 * count + 3],
@@ -80,12 +80,12 @@ fn asked(file: &[u8], house: &House) -> Rows {
 /// What the port has to answer where the Rust says this.
 fn expected(told: &Told) -> Rows {
     let read = told.house.records.len();
-    let mut r = Rows { number: told.verdict.number(), counts: [0; 10], values: [0.0; 14], active: [false; 7], ..nothing(read) };
+    let mut r = Rows { number: told.verdict.number(), counts: [0; 11], values: [0.0; 14], active: [false; 7], ..nothing(read) };
     (r.counts[0], r.counts[1]) = (read, told.kept);
-    r.counts[4..9].iter_mut().zip(told.counts).for_each(|(to, n)| *to = n as usize);
+    r.counts[4..10].iter_mut().zip(told.counts).for_each(|(to, n)| *to = n as usize);
     match &told.verdict {
         Verdict::Accepted(f) => {
-            r.counts[9] = f.capped.len();
+            r.counts[10] = f.capped.len();
             r.values[0] = f.margins[4];
             r.values[2..8].copy_from_slice(&f.slice);
             r.values[8..10].copy_from_slice(&f.k_range);
