@@ -72,10 +72,10 @@ extern "C" fn measured_rust_cell(c: &OneCell) {
 #[unsafe(no_mangle)]
 #[inline(never)]
 extern "C" fn measured_port_cell(one: &OneCell) -> usize {
-    let (mut faces, mut values, mut active) = ([0], [0.0; 4], [false; 7]);
-    black_box(c::cell(&one.k, &one.w, &one.t, &one.limits, one.m, one.sigma, &mut faces, &mut values, &mut active));
+    let (mut counts, mut values, mut active) = ([0; 2], [0.0; 4], [false; 7]);
+    black_box(c::cell(&one.k, &one.w, &one.t, &one.limits, one.m, one.sigma, &mut counts, &mut values, &mut active));
     black_box((values, active));
-    faces[0]
+    counts[0]
 }
 
 /// A number from 0 to 1 out of a count, the same on every machine.
@@ -165,10 +165,10 @@ fn both(rounds: usize, rust: impl Fn(), mut port: impl FnMut()) -> (f64, f64, f6
     (median(r), median(p), median(ratio))
 }
 
-/// passes, recentres, shrinks, cells and faces, as the port prints them.
+/// passes, recentres, shrinks, cells, faces and updates, as the port prints them.
 fn searched(answer: &[u8]) -> Vec<u64> {
     let text = String::from_utf8_lossy(answer);
-    let line = text.lines().find(|l| l.starts_with("search ")).unwrap_or("search 0 0 0 0 0");
+    let line = text.lines().find(|l| l.starts_with("search ")).unwrap_or("search 0 0 0 0 0 0");
     line.split(' ').skip(1).map(|v| v.parse().expect("a count")).collect()
 }
 
@@ -179,7 +179,7 @@ fn ran(h: &House) -> (Vec<u8>, Vec<u8>) {
 }
 
 fn fits(rounds: usize) {
-    println!("{:18}{:>10}{:>10}{:>8}{:>9}{:>9}{:>12}{:>12}", "whole fit", "Rust ms", "port ms", "ratio", "cells", "faces", "cells/s", "faces/s");
+    println!("{:18}{:>10}{:>10}{:>8}{:>9}{:>9}{:>12}{:>12}{:>12}", "whole fit", "Rust ms", "port ms", "ratio", "cells", "faces", "updates", "cells/s", "faces/s");
     for kind in KINDS {
         for count in SIZES {
             let h = made(kind, count, None);
@@ -190,14 +190,15 @@ fn fits(rounds: usize) {
             let other = counts::take();
             let mut out = vec![0; 32 << 10];
             let (r, p, ratio) = both(rounds, || measured_rust(&h), || _ = measured_port(&file, &mut out));
-            let note = if other[3..] == counts[3..] { String::new() } else { format!("  the Rust went another way: {} cells, {} faces", other[3], other[4]) };
+            let note = if other[3..5] == counts[3..5] { String::new() } else { format!("  the Rust went another way: {} cells, {} faces", other[3], other[4]) };
             println!(
-                "{:18}{:10.2}{:10.2}{ratio:8.2}{:9}{:9}{:12.0}{:12.0}{note}",
+                "{:18}{:10.2}{:10.2}{ratio:8.2}{:9}{:9}{:12}{:12.0}{:12.0}{note}",
                 format!("{kind} {count}"),
                 r * 1e3,
                 p * 1e3,
                 counts[3],
                 counts[4],
+                counts[5],
                 counts[3] as f64 / p,
                 counts[4] as f64 / p
             );
@@ -232,9 +233,9 @@ fn solves() {
             rust = rust.min(nanos(&|i| _ = black_box(solve_linear(black_box(vectors[i].0.clone()), vectors[i].1.clone(), 1e-12))));
             bare = bare.min(nanos(&|i| _ = black_box(vectors[i].clone())));
             port = port.min(nanos(&|i| {
-                let mut x = [0.0; 6];
-                black_box(c::solve(black_box(&made[i].0), &made[i].1, n, 1e-12, &mut x));
-                black_box(x);
+                let (mut x, mut updates) = ([0.0; 6], [0]);
+                black_box(c::solve(black_box(&made[i].0), &made[i].1, n, 1e-12, &mut x, &mut updates));
+                black_box((x, updates));
             }));
         }
         println!("size {n}: Rust {rust:.0} ns ({bare:.0} of them the copy), port {port:.0} ns, ratio {:.2} (without the copy {:.2})", port / rust, port / (rust - bare));

@@ -7,7 +7,7 @@
 typedef double f64;
 typedef __SIZE_TYPE__ usize;
 typedef struct { f64 a_min, a_max, pivot_tolerance, feasibility_tolerance; } Limits;
-typedef struct { _Bool some; f64 objective, x[3]; _Bool active[7]; usize faces; } Cell;
+typedef struct { _Bool some; f64 objective, x[3]; _Bool active[7]; usize faces, updates; } Cell;
 typedef struct { const f64 *y, *h, *w, *t; usize count; } Quotes;
 typedef struct { f64 q[9], right[3]; } Base; /* the 3 by 3 block of every system, row by row, and its right side */
 typedef struct { f64 x[3]; _Bool ok; } Point;
@@ -31,8 +31,9 @@ INLINE void copy(f64 *to, const f64 *from, usize first, usize end) { for (usize 
 #define FIRST(col) (((col) + 1) / 2 * 2)
 #define END(n) ((n) / 2 * 2 + 2)
 
-/* The pivot is the last of the largest, and a NaN is above all. Nothing follows the test of the last column. */
-INLINE _Bool column(f64 *m, usize n, f64 limit, usize col) {
+/* The pivot is the last of the largest, and a NaN is above all. Nothing follows the test of the last column. A row that is worked on counts its n - col entries from
+ * the pivot's column on, also those that are left out here. */
+INLINE _Bool column(f64 *m, usize n, f64 limit, usize col, usize *updates) {
     usize p = col;
     f64 top = size_of(m[col * 8 + col]);
     for (usize i = col + 1; i < n; i++) {
@@ -52,15 +53,16 @@ INLINE _Bool column(f64 *m, usize n, f64 limit, usize col) {
     for (usize row = col + 1; row < n; row++) {
         f64 factor = m[row * 8 + col] / pivot;
         if (factor == 0.0) continue;
+        *updates += n - col;
         for (usize j = FIRST(col); j < END(n); j++) m[row * 8 + j] = m[row * 8 + j] - factor * values[j];
     }
     return 1;
 }
 
-INLINE _Bool eliminate(f64 *m, usize n, f64 limit) {
+INLINE _Bool eliminate(f64 *m, usize n, f64 limit, usize *updates) {
     for (usize i = 0; n % 2 == 0 && i < n; i++) m[i * 8 + n + 1] = 0.0;
-    return column(m, n, limit, 0) && column(m, n, limit, 1) && (n < 3 || column(m, n, limit, 2)) && (n < 4 || column(m, n, limit, 3)) &&
-           (n < 5 || column(m, n, limit, 4)) && (n < 6 || column(m, n, limit, 5));
+    return column(m, n, limit, 0, updates) && column(m, n, limit, 1, updates) && (n < 3 || column(m, n, limit, 2, updates)) && (n < 4 || column(m, n, limit, 3, updates)) &&
+           (n < 5 || column(m, n, limit, 4, updates)) && (n < 6 || column(m, n, limit, 5, updates));
 }
 
 INLINE void back(const f64 *m, usize n, f64 *x) {
@@ -76,9 +78,9 @@ INLINE void back(const f64 *m, usize n, f64 *x) {
  * difference and the quotient. So one test does for all. */
 INLINE Point point(f64 x0, f64 x1, f64 x2) { return (Point){ { x0, x1, x2 }, x0 - x0 == 0.0 }; }
 
-INLINE Point solved(f64 *m, usize n, f64 limit) {
+INLINE Point solved(f64 *m, usize n, f64 limit, usize *updates) {
     f64 x[6];
-    if (!eliminate(m, n, limit)) return none;
+    if (!eliminate(m, n, limit, updates)) return none;
     back(m, n, x);
     return point(x[0], x[1], x[2]);
 }
@@ -95,13 +97,13 @@ INLINE void constraint(f64 *m, const f64 *h, usize n, usize c, usize r) {
 }
 
 /* The face of constraints i, j and k, of which n - 3 count, by itself. */
-INLINE Point own(const Base *b, const f64 *h, f64 limit, usize n, usize i, usize j, usize k) {
+INLINE Point own(const Base *b, const f64 *h, f64 limit, usize n, usize i, usize j, usize k, usize *updates) {
     f64 m[48];
     base_rows(m, b, n);
     constraint(m, h, n, i, 3);
     if (n > 4) constraint(m, h, n, j, 4);
     if (n > 5) constraint(m, h, n, k, 5);
-    return solved(m, n, limit);
+    return solved(m, n, limit, updates);
 }
 
 #ifdef SHARE
@@ -114,18 +116,27 @@ typedef struct {
     f64 m[10 * WIDE];        /* after columns 0 and 1 */
     f64 after[10 * WIDE];    /* the constraints' rows after column 2 */
     _Bool two[7], three[7];  /* whether a constraint lies below the pivots of columns 0 and 1, and of column 2 too */
+    usize base, both[7], all[7]; /* the work: of the base's rows, and of each constraint's in columns 0 and 1, and in column 2 too */
 } Shared;
 
-INLINE void less(f64 *to, const f64 *m, usize row, usize col) {
+/* Rows that were worked on, and the sum of the columns in which they were, in one number each: a face of n unknowns updates n entries for each of those rows, less
+ * the columns before the pivot's. No sum here reaches 1 << 16. */
+#define WORK(col) (((usize)1 << 16) + (col))
+#define UPDATES(n, work) ((n) * ((work) >> 16) - ((work) & 0xffff))
+
+/* The work: none where the factor is 0. */
+INLINE usize less(f64 *to, const f64 *m, usize row, usize col) {
     f64 factor = m[row * WIDE + col] / m[col * WIDE + col], values[WIDE], mine[WIDE];
     copy(mine, m + row * WIDE, FIRST(col), WIDE);
-    if (factor == 0.0) { copy(to + row * WIDE, mine, FIRST(col), WIDE); return; }
+    if (factor == 0.0) { copy(to + row * WIDE, mine, FIRST(col), WIDE); return 0; }
     copy(values, m + col * WIDE, FIRST(col), WIDE);
     for (usize j = FIRST(col); j < WIDE; j++) to[row * WIDE + j] = mine[j] - factor * values[j];
+    return WORK(col);
 }
 
 /* False where no face may share: the pivot of the base is at most the limit, or a NaN. */
-INLINE _Bool shared_column(f64 *m, _Bool *low, f64 limit, usize col) {
+INLINE _Bool shared_column(Shared *s, _Bool *low, f64 limit, usize col) {
+    f64 *m = s->m;
     usize p = col;
     f64 top = size_of(m[col * WIDE + col]), mine[WIDE], other[WIDE];
     for (usize i = col + 1; i < 3; i++) {
@@ -139,10 +150,10 @@ INLINE _Bool shared_column(f64 *m, _Bool *low, f64 limit, usize col) {
         copy(m + col * WIDE, other, 0, WIDE);
         copy(m + p * WIDE, mine, 0, WIDE);
     }
-    for (usize i = col + 1; i < 3; i++) less(m, m, i, col);
+    for (usize i = col + 1; i < 3; i++) s->base += less(m, m, i, col);
     for (usize c = 0; c < 7; c++) {
         low[c] = low[c] & (size_of(m[(c + 3) * WIDE + col]) < top);
-        if (low[c]) less(m, m, c + 3, col);
+        if (low[c]) s->both[c] += less(m, m, c + 3, col);
     }
     return 1;
 }
@@ -156,13 +167,21 @@ static void share(Shared *s, const Base *b, const f64 *h, f64 limit) {
         m[(3 + c) * WIDE + RIGHT] = h[c];
     }
     _Bool low[7] = { 1, 1, 1, 1, 1, 1, 1 };
-    _Bool ok = shared_column(m, low, limit, 0) && shared_column(m, low, limit, 1);
+    s->base = 0;
+    for (usize c = 0; c < 7; c++) s->both[c] = 0;
+    _Bool ok = shared_column(s, low, limit, 0) && shared_column(s, low, limit, 1);
     f64 top = size_of(m[2 * WIDE + 2]);
     for (usize c = 0; c < 7; c++) {
         s->two[c] = ok & low[c];
         s->three[c] = s->two[c] & (limit < top) & (size_of(m[(c + 3) * WIDE + 2]) < top);
-        if (s->three[c]) less(s->after, m, c + 3, 2);
+        s->all[c] = s->both[c];
+        if (s->three[c]) s->all[c] += less(s->after, m, c + 3, 2);
     }
+}
+
+/* The entries that a face of n - 3 constraints has updated once the columns that it shares are cleared. */
+INLINE usize behind(const Shared *s, const usize *work, usize n, usize i, usize j, usize k) {
+    return UPDATES(n, s->base + work[i] + (n > 4 ? work[j] : 0) + (n > 5 ? work[k] : 0));
 }
 
 /* t and a row's products with the unknowns x3, x4 and x5 of columns a, b and c, of which n - 3 count. */
@@ -185,35 +204,39 @@ INLINE Point upper_three(const f64 *m, usize n, usize a, usize b, usize c, f64 x
     return upper_two(m, n, a, b, c, (row[RIGHT] - sum(0.0, row, n, a, b, c, x3, x4, x5)) / row[2], x3, x4, x5);
 }
 
-/* Two columns shared: n - 2 rows are left, row 2 of the base and those of the constraints. They are a system like any other. */
-INLINE Point half(const Shared *s, f64 limit, usize n, usize i, usize j, usize k) {
+/* Two columns shared: n - 2 rows are left, row 2 of the base and those of the constraints. They are a system like any other, whose rows end where the whole one's do. */
+INLINE Point half(const Shared *s, f64 limit, usize n, usize i, usize j, usize k, usize *updates) {
     usize at[4] = { 2, 3 + i, 3 + j, 3 + k };
+    *updates += behind(s, s->both, n, i, j, k);
     f64 m[32], x[4] = { 0.0 };
     for (usize r = 0; r < n - 2; r++) {
         for (usize c = 0; c < n - 2; c++) m[r * 8 + c] = s->m[at[r] * WIDE + at[c]];
         m[r * 8 + n - 2] = s->m[at[r] * WIDE + RIGHT];
     }
-    if (!eliminate(m, n - 2, limit)) return none;
+    if (!eliminate(m, n - 2, limit, updates)) return none;
     back(m, n - 2, x);
     return upper_two(s->m, n, at[1], at[2], at[3], x[0], x[1], x[2], x[3]);
 }
 
-/* Three columns shared: one, two or three rows are left, which stay where they are. A NaN need not become the pivot: wherever it stands in their columns it
- * reaches x[0], or a pivot is too small before it does; the face is refused either way. */
-INLINE Point rest1(const Shared *s, f64 limit, usize i) {
+/* Three columns shared: one, two or three rows are left, which stay where they are. None of them has a NaN in a constraint's column: entries there began as 0, 1 or
+ * -1, and no factor so far was above 1 in size. Only a limit below 0 lets a pivot of 0 pass; then all rows that are left turn to NaN at once, each is worked on
+ * and the face is refused, whichever of them is the pivot. */
+INLINE Point rest1(const Shared *s, f64 limit, usize i, usize *updates) {
     usize a = 3 + i;
     const f64 *p = s->after + a * WIDE;
+    *updates += behind(s, s->all, 4, i, 0, 0);
     if (size_of(p[a]) <= limit) return none;
     return upper_three(s->m, 4, a, 0, 0, p[RIGHT] / p[a], 0.0, 0.0);
 }
 
-INLINE Point rest2(const Shared *s, f64 limit, usize i, usize j) {
+INLINE Point rest2(const Shared *s, f64 limit, usize i, usize j, usize *updates) {
     usize a = 3 + i, b = 3 + j;
     const f64 *p = s->after + a * WIDE, *q = s->after + b * WIDE, *first = p;
+    *updates += behind(s, s->all, 5, i, j, 0);
     if (size_of(p[a]) <= size_of(q[a])) { p = q; q = first; }
     if (size_of(p[a]) <= limit) return none;
     f64 factor = q[a] / p[a], qb = q[b], right = q[RIGHT];
-    if (factor != 0.0) { qb = qb - factor * p[b]; right = right - factor * p[RIGHT]; }
+    if (factor != 0.0) { *updates += 2; qb = qb - factor * p[b]; right = right - factor * p[RIGHT]; }
     if (size_of(qb) <= limit) return none;
     f64 x4 = right / qb, x3 = (p[RIGHT] - (0.0 + p[b] * x4)) / p[a];
     return upper_three(s->m, 5, a, b, 0, x3, x4, 0.0);
@@ -221,24 +244,26 @@ INLINE Point rest2(const Shared *s, f64 limit, usize i, usize j) {
 
 typedef struct { f64 b, c, right; } Row;
 
-INLINE Row cleared(const f64 *row, f64 pivot, Row p, usize a, usize b, usize c) {
+INLINE Row cleared(const f64 *row, f64 pivot, Row p, usize a, usize b, usize c, usize *updates) {
     f64 factor = row[a] / pivot;
     if (factor == 0.0) return (Row){ row[b], row[c], row[RIGHT] };
+    *updates += 3;
     return (Row){ row[b] - factor * p.b, row[c] - factor * p.c, row[RIGHT] - factor * p.right };
 }
 
-INLINE Point rest3(const Shared *s, f64 limit, usize i, usize j, usize k) {
+INLINE Point rest3(const Shared *s, f64 limit, usize i, usize j, usize k, usize *updates) {
     usize a = 3 + i, b = 3 + j, c = 3 + k;
     const f64 *p = s->after + a * WIDE, *q = s->after + b * WIDE, *r = s->after + c * WIDE, *first = p;
     f64 tp = size_of(p[a]), tq = size_of(q[a]), tr = size_of(r[a]);
+    *updates += behind(s, s->all, 6, i, j, k);
     if (tp <= tq && !(tq <= tr)) { p = q; q = first; } else if (tp <= tq || tp <= tr) { p = r; r = first; }
     f64 pivot = p[a];
     if (size_of(pivot) <= limit) return none;
-    Row x = { p[b], p[c], p[RIGHT] }, y = cleared(q, pivot, x, a, b, c), z = cleared(r, pivot, x, a, b, c);
+    Row x = { p[b], p[c], p[RIGHT] }, y = cleared(q, pivot, x, a, b, c, updates), z = cleared(r, pivot, x, a, b, c, updates);
     if (size_of(y.b) <= size_of(z.b)) { Row second = y; y = z; z = second; }
     if (size_of(y.b) <= limit) return none;
     f64 factor = z.b / y.b;
-    if (factor != 0.0) { z.c = z.c - factor * y.c; z.right = z.right - factor * y.right; }
+    if (factor != 0.0) { *updates += 2; z.c = z.c - factor * y.c; z.right = z.right - factor * y.right; }
     if (size_of(z.c) <= limit) return none;
     f64 x5 = z.right / z.c, x4 = (y.right - (0.0 + y.c * x5)) / y.b, x3 = (x.right - (0.0 + x.b * x4 + x.c * x5)) / pivot;
     return upper_three(s->m, 6, a, b, c, x3, x4, x5);
@@ -264,26 +289,28 @@ static void judge(const f64 *x, const Quotes *q, usize mask, Best *best) {
     if (is_finite(objective) && (!best->some || objective < best->objective)) *best = (Best){ objective, { x[0], x[1], x[2] }, mask, 1 };
 }
 
-/* All faces but the empty one, in their order. */
-static void others(const Base *base, const f64 *h, const Quotes *q, f64 limit, f64 slack, Best *best) {
+/* All faces but the empty one, in their order; the entries that they update. */
+static usize others(const Base *base, const f64 *h, const Quotes *q, f64 limit, f64 slack, Best *best) {
+    usize updates = 0;
 #ifdef SHARE
     Shared s;
     share(&s, base, h, limit);
 #define ALL(marks, n) (s.marks[i] & (n < 5 || s.marks[j]) & (n < 6 || s.marks[k]))
-#define FACE(n, rest) (ALL(three, n) ? rest : ALL(two, n) ? half(&s, limit, n, i, j, k) : own(base, h, limit, n, i, j, k))
+#define FACE(n, rest) (ALL(three, n) ? rest : ALL(two, n) ? half(&s, limit, n, i, j, k, &updates) : own(base, h, limit, n, i, j, k, &updates))
 #else
-#define FACE(n, rest) own(base, h, limit, n, i, j, k)
+#define FACE(n, rest) own(base, h, limit, n, i, j, k, &updates)
 #endif
 #define TRY(mask, face) do { Point p = face; if (p.ok && feasible(h, p.x, slack)) judge(p.x, q, mask, best); } while (0)
     for (usize i = 0, j = 0, k = 0; i < 7; i++)
-        TRY(1u << i, FACE(4, rest1(&s, limit, i)));
+        TRY(1u << i, FACE(4, rest1(&s, limit, i, &updates)));
     for (usize i = 0, k = 0; i < 7; i++)
         for (usize j = i + 1; j < 7; j++)
-            TRY(1u << i | 1u << j, FACE(5, rest2(&s, limit, i, j)));
+            TRY(1u << i | 1u << j, FACE(5, rest2(&s, limit, i, j, &updates)));
     for (usize i = 0; i < 7; i++)
         for (usize j = i + 1; j < 7; j++)
             for (usize k = j + 1; k < 7; k++)
-                TRY(1u << i | 1u << j | 1u << k, FACE(6, rest3(&s, limit, i, j, k)));
+                TRY(1u << i | 1u << j | 1u << k, FACE(6, rest3(&s, limit, i, j, k, &updates)));
+    return updates;
 }
 
 /* The empty face where it qualifies, else the best of all. The scale of a system is its largest magnitude, NaN passed over: the block's for the empty face, the
@@ -303,18 +330,18 @@ Cell NAME(const f64 *k, usize ks, const f64 *w, usize ws, const f64 *t, usize ts
     f64 slack = l.feasibility_tolerance * spread;
     Quotes q = { y, h, w, t, ks };
     Best best = { 0 };
-    usize faces = 1;
+    usize faces = 1, updates = 0;
     if (is_finite(scale) & (scale > 0.0)) {
         base_rows(system, &base, 3);
-        Point p = solved(system, 3, l.pivot_tolerance * scale);
+        Point p = solved(system, 3, l.pivot_tolerance * scale, &updates);
         if (p.ok && feasible(bounds, p.x, slack)) judge(p.x, &q, 0, &best);
     }
     if (!best.some) {
         faces = 64;
         scale = larger(scale, 1.0);
-        if (is_finite(scale)) others(&base, bounds, &q, l.pivot_tolerance * scale, slack, &best);
+        if (is_finite(scale)) updates += others(&base, bounds, &q, l.pivot_tolerance * scale, slack, &best);
     }
-    Cell cell = { best.some, best.objective, { best.x[0], best.x[1], best.x[2] }, { 0 }, faces };
+    Cell cell = { best.some, best.objective, { best.x[0], best.x[1], best.x[2] }, { 0 }, faces, updates };
     for (usize i = 0; i < 7; i++) cell.active[i] = best.mask >> i & 1;
     return cell;
 }

@@ -99,7 +99,8 @@ static Question asked(void) {
 }
 
 static bool same(const Cell *a, const Cell *b) {
-    return a->some == b->some && !memcmp(&a->objective, &b->objective, 8) && !memcmp(a->x, b->x, 24) && !memcmp(a->active, b->active, 7) && a->faces == b->faces;
+    return a->some == b->some && !memcmp(&a->objective, &b->objective, 8) && !memcmp(a->x, b->x, 24) && !memcmp(a->active, b->active, 7) &&
+           a->faces == b->faces && a->updates == b->updates;
 }
 
 int main(int count, char **words) {

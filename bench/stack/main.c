@@ -144,10 +144,11 @@ static void do_report_clean(void)
 static void do_solve(void)
 {
     double m[36], rhs[6] = {1, 2, 3, 4, 5, 6}, x[6];
+    uint64_t updates;
     for (size_t n = 0; n <= 7; n++) {
         for (int i = 0; i < 36; i++)
             m[i] = sin(1 + 7 * i);
-        sink = port_solve(m, rhs, n, 1e-14, x);
+        sink = port_solve(m, rhs, n, 1e-14, x, &updates);
     }
 }
 static void do_cell(void)
