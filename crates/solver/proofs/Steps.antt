@@ -20,7 +20,7 @@ use Rattle.laws.proofs.Floats.{nan-test}
 use Rattle.laws.proofs.Loops.{again, halted}
 use Rattle.laws.proofs.Order.{lt-le-trans, lt-or, lt→le}
 use Rattle.solver.specs.Solve.{entry, ranked, rowScaleOf, exchange}
-use Rattle.solver.specs.Rows.{NotBelowZero, Room, Reduced, room, reduced, pivotIn, swapIn, clearIn, raisedIn, clearedIn, columnIn, fromIn}
+use Rattle.solver.specs.Rows.{NotBelowZero, Room, Reduced, room, reduced, pivotIn, swapIn, clearIn, raisedIn, clearedIn, columnIn, fromIn, mostOf, mostFrom}
 
 cond-same : {A : Type 0} {x : A} (t : Bool) → cond t x x ≡ x
 cond-same true = refl
@@ -262,6 +262,13 @@ module _ (n : ℕ) (limit : Float) where
     cleared {u} {w} f g d =
         let s = g ∙ ap (λ (b : Bool). clearedIn k (room b t) v) (sym f) ∙ brought in
         d ∙ ap (fromIn (k + 1) n limit) s ∙ one-column k (reduced true m v) (ltb→lt k 6 l)
+
+-- the most that is still to come: of a column that the system has, and of one that it has not
+pub most-here : (k n : ℕ) → 6 - k ≤ n → mostFrom k n ≡ mostOf (6 - k)
+most-here k n h = ap mostOf (omega arith)
+
+pub most-next : (k n : ℕ) → n < 6 - k → mostFrom (k + 1) n ≡ mostFrom k n
+most-next k n h = ap mostOf (omega arith)
 
 -- the last column: its pivot is in its place, and nothing is below it
 pub last-column : (n : ℕ) (limit : Float) (m : List Float) (v : ℕ) {small : Bool} → 1 ≤ n → small ≡ le (absOf (at m 45)) limit → reduced (not small) m v ≡ fromIn 5 n limit (reduced true m v)

@@ -1,6 +1,6 @@
 -- How many entries an elimination updates: at most n(n x n - 1)/3 in n unknowns, and none where the size or the scale refuses. Assumes nothing.
 use mathlib.Core.Path.{_≡_, refl}
-use mathlib.Core.Bool.{true, false, _&&_}
+use mathlib.Core.Bool.{_&&_}
 use mathlib.Core.List.{List}
 use Prim.Native.Nat.{ℕ, zero, suc, _+_, _-_, _*_, _≤_, _<_}
 use native.Mathlib.Omega.{arith}
@@ -12,7 +12,7 @@ use Rattle.laws.proofs.Choices.{cond-ind, cond-test}
 use Rattle.laws.proofs.Loops.{for-ind}
 use Rattle.laws.proofs.Sums.{for-most}
 use Rattle.solver.specs.declared.Solved.{Solved}
-use Rattle.solver.specs.Solve.{System, standing, entry, swapRows, swapped, matrixRow, factorOf, rowDone, belowOf, pivotRowOf, pivoted, columnOf, eliminatedOf, backIf, scaleOf, underOf, solvedAtScale, solveOf}
+use Rattle.solver.specs.Solve.{System, standing, entry, swapRows, swapped, matrixRow, factorOf, rowDone, belowOf, pivotRowOf, pivoted, columnOf, eliminatedOf, scaleOf, underOf, solvedAtScale, solveOf}
 use Rattle.solver.proofs.Solutions.{back-updates}
 use Rattle.solver.proofs.Whole.{sized}
 

@@ -12,7 +12,6 @@ use Rattle.laws.specs.Loop.{turns}
 use Rattle.laws.specs.Floats.{+0, _*f_, finite, positive}
 use Rattle.laws.proofs.Choices.{both, false-true, if-true, if-false}
 use Rattle.solver.specs.declared.Solved.{Solved}
-use Rattle.solver.specs.declared.rows.Elimination.{Elimination}
 use Rattle.solver.specs.Solve.{standing, refused, scaleOf, eliminatedOf, backIf, solvedAtScale, solveOf}
 use Rattle.solver.specs.Rows.{Room, room, solvedIn, updatesIn, placedOf, frontOf}
 use Rattle.solver.proofs.Views.{Found}
@@ -69,13 +68,13 @@ module _ (n : ℕ) (m rhs : List Float) (limit : Float) (sizes : (1 ≤ n) × (n
       q ∙ ap (updatesIn n limit) p ∙ counted n o limit m rhs (placedOf n m rhs) sum (sizes .0) long-m long-rhs (placed-length n o m rhs sum) (placed-stands n o m rhs sum)
 
   -- the rows were solved, and their unknowns taken out
-  pub accepts : (t x y : List Float) (r : Elimination) → t ≡ placedOf n m rhs → (room (r .ok) x ≡ solvedIn n limit t (replicate 6 +0)) × (r .updates ≡ updatesIn n limit t) → r .ok ≡ true → y ≡ frontOf n x
-      → record { x = y; ok = true; updates = r .updates } ≡ answer
-  accepts t x y r p q h k =
-      let f = found t (room (r .ok) x) p (q .0) in
+  pub accepts : (t x y : List Float) (r : Bool) (u : ℕ) → t ≡ placedOf n m rhs → (room r x ≡ solvedIn n limit t (replicate 6 +0)) × (u ≡ updatesIn n limit t) → r ≡ true → y ≡ frontOf n x
+      → record { x = y; ok = true; updates = u } ≡ answer
+  accepts t x y r u p q h k =
+      let f = found t (room r x) p (q .0) in
       let sum : n + (6 - n) ≡ 6 = omega (arith, sizes .1) in
-      ap₂ (λ (y : List Float) (u : ℕ). record { x = y; ok = true; updates = u }) k (as-many t (r .updates) p (q .1)) ∙ first-found n (6 - n) answer (room (r .ok) x) sum f (eliminated-sound n _ (sizes .1)) (f .same ∙ h)
+      ap₂ (λ (y : List Float) (u : ℕ). record { x = y; ok = true; updates = u }) k (as-many t u p (q .1)) ∙ first-found n (6 - n) answer (room r x) sum f (eliminated-sound n _ (sizes .1)) (f .same ∙ h)
 
   -- the rows were not solved
-  pub refuses : (t x : List Float) (r : Elimination) → t ≡ placedOf n m rhs → (room (r .ok) x ≡ solvedIn n limit t (replicate 6 +0)) × (r .updates ≡ updatesIn n limit t) → r .ok ≡ false → refused (r .updates) ≡ answer
-  refuses t x r p q h = ap refused (as-many t (r .updates) p (q .1)) ∙ none-found n answer (eliminated-sound n _ (sizes .1)) (found t (room (r .ok) x) p (q .0) .same ∙ h)
+  pub refuses : (t x : List Float) (r : Bool) (u : ℕ) → t ≡ placedOf n m rhs → (room r x ≡ solvedIn n limit t (replicate 6 +0)) × (u ≡ updatesIn n limit t) → r ≡ false → refused u ≡ answer
+  refuses t x r u p q h = ap refused (as-many t u p (q .1)) ∙ none-found n answer (eliminated-sound n _ (sizes .1)) (found t (room r x) p (q .0) .same ∙ h)

@@ -3,7 +3,7 @@
 use mathlib.Core.Path.{_≡_}
 use mathlib.Core.Bool.{Bool, true, false, cond}
 use mathlib.Core.List.{List}
-use Prim.Native.Nat.{ℕ, _+_, _-_, _*_}
+use Prim.Native.Nat.{ℕ, _+_, _-_, _*_, _/_, min}
 use lib.Dec.{leb}
 use lib.ListN.{set, replicate}
 use lib.Ieee.{Float, lt, le, eq, isNan}
@@ -76,6 +76,14 @@ columnIn limit col s = cond (s .ok) (clearedIn col (raisedIn limit col (pivotIn 
 
 unfoldable pub fromIn : ℕ → ℕ → Float → Reduced → Reduced
 fromIn k n limit s = for k 6 (λ col s. cond (leb 6 (n + col)) (columnIn limit col s) s) s
+
+-- as many updates as a system of n unknowns has where no factor is a zero: d - 1 rows of d entries for d = n, n - 1, .., 1
+abbrev pub mostOf : ℕ → ℕ
+mostOf n = n * (n * n - 1) / 3
+
+-- and in its columns from column k on
+abbrev pub mostFrom : ℕ → ℕ → ℕ
+mostFrom k n = mostOf (min n (6 - k))
 
 -- ---- the unknowns, from the last row up, each in its row's place of x
 

@@ -115,9 +115,9 @@ pub fn solve_under(m: [f64; 36], rhs: [f64; 6], n: usize, limit: f64) -> Solved
     if (0 < n) & (n <= 6) {
         let mut t = place(&m, &rhs, n);
         let mut x = [0.0; 6];
-        let e = rows::solve_rows(&mut t, n, limit, &mut x);
-        let updates = e.updates;
-        if e.ok {
+        let all = rows::most(n);
+        let mut updates = 0;
+        if rows::solve_rows(&mut t, n, limit, &mut x, all, &mut updates) {
             return Solved {
                 x: first(&x, n),
                 ok: true,
@@ -138,9 +138,9 @@ pub fn solve(m: [f64; 36], rhs: [f64; 6], n: usize, tol: f64) -> Solved
         if bits::is_finite(scale) & (scale > 0.0) {
             let mut t = laid(&m, &rhs, n);
             let mut x = [0.0; 6];
-            let e = rows::solve_rows(&mut t, n, tol * scale, &mut x);
-            let updates = e.updates;
-            if e.ok {
+            let all = rows::most(n);
+            let mut updates = 0;
+            if rows::solve_rows(&mut t, n, tol * scale, &mut x, all, &mut updates) {
                 return Solved {
                     x: first(&x, n),
                     ok: true,

@@ -14,36 +14,44 @@ use Rattle.solver.proofs.solve.Tie as tie
 
 solve-rows-requires : tie.Need-solve-rows-requires
 solve-rows-requires c κs =
-    let a = c .before .before .before .before .before .before .before .before .before .before .args in
-    let s = c .before .before .before .before .before .before .before .scale-of in
-    let test = ap (λ (b : Bool). b && lt +0 (s .result)) (sym (c .before .before .before .before .before .before .is-finite .ensures)) ∙ c .before .before .before .before .before .if2 .taken in
-    sized-by-scale (a .n) (a .t1) (s .result) (c .before .before .before .before .before .before .before .before .before .if1 .taken) (s .ensures) test
+    let a = c .before .before .before .before .before .before .before .before .before .before .before .before .args in
+    let s = c .before .before .before .before .before .before .before .before .before .scale-of in
+    let test = ap (λ (b : Bool). b && lt +0 (s .result)) (sym (c .before .before .before .before .before .before .before .before .is-finite .ensures)) ∙ c .before .before .before .before .before .before .before .if2 .taken in
+    let z = sized-by-scale (a .n) (a .t1) (s .result) (c .before .before .before .before .before .before .before .before .before .before .before .if1 .taken) (s .ensures) test in
+    (z .0, z .1, c .before .before .before .most .ensures)
+
+most-requires : tie.Need-most-requires
+most-requires c κs =
+    let a = c .before .before .before .before .before .before .before .before .args in
+    let s = c .before .before .before .before .before .scale-of in
+    let test = ap (λ (b : Bool). b && lt +0 (s .result)) (sym (c .before .before .before .before .is-finite .ensures)) ∙ c .before .before .before .if2 .taken in
+    sized-by-scale (a .n) (a .t1) (s .result) (c .before .before .before .before .before .before .before .if1 .taken) (s .ensures) test
 
 returns : tie.Need-returns
 returns c =
-    let g = c .before .before .before .before .before .before .before .before .before .before .before .before .before .before .good in
-    let a = c .before .before .before .before .before .before .before .before .before .before .before .before .before .before .args in
-    let s = c .before .before .before .before .before .before .before .before .before .before .before .scale-of in
+    let g = c .before .before .before .before .before .before .before .before .before .before .before .before .before .before .before .before .good in
+    let a = c .before .before .before .before .before .before .before .before .before .before .before .before .before .before .before .before .args in
+    let s = c .before .before .before .before .before .before .before .before .before .before .before .before .before .scale-of in
     let r = c .before .before .before .solve-rows in
-    let p = c .before .before .before .before .before .before .laid in
-    let six = c .before .before .before .before .before .before .before .before .before .before .before .before .before .if1 .taken in
-    let test = ap (λ (b : Bool). b && lt +0 (s .result)) (sym (c .before .before .before .before .before .before .before .before .before .before .is-finite .ensures)) ∙ c .before .before .before .before .before .before .before .before .before .if2 .taken in
+    let p = c .before .before .before .before .before .before .before .before .laid in
+    let six = c .before .before .before .before .before .before .before .before .before .before .before .before .before .before .before .if1 .taken in
+    let test = ap (λ (b : Bool). b && lt +0 (s .result)) (sym (c .before .before .before .before .before .before .before .before .before .before .before .before .is-finite .ensures)) ∙ c .before .before .before .before .before .before .before .before .before .before .before .if2 .taken in
     accepts (a .n) (a .t1) (a .t2) (a .tol *f s .result) (sized-by-scale (a .n) (a .t1) (s .result) six (s .ensures) test) (g .0 .1 .0 .1) (g .1 .0 .1 .0 .1)
-    (p .result) (r .last .1 .1 .1 .0) (c .first .result) (r .result) (p .ensures) (r .ensures) (c .before .before .if3 .taken) (c .first .ensures)
+    (p .result) (r .last .1 .1 .1 .0) (c .first .result) (r .result) (r .last .1 .1 .1 .1 .1 .0) (p .ensures) (r .ensures) (c .before .before .if3 .taken) (c .first .ensures)
     ∙ scaled (a .n) (a .t1) (a .t2) (a .tol) (s .result) six (s .ensures) test
 
 returns-2 : tie.Need-returns-2
 returns-2 c =
-    let g = c .before .before .before .before .before .before .before .before .before .before .before .before .before .good in
-    let a = c .before .before .before .before .before .before .before .before .before .before .before .before .before .args in
-    let s = c .before .before .before .before .before .before .before .before .before .before .scale-of in
+    let g = c .before .before .before .before .before .before .before .before .before .before .before .before .before .before .before .good in
+    let a = c .before .before .before .before .before .before .before .before .before .before .before .before .before .before .before .args in
+    let s = c .before .before .before .before .before .before .before .before .before .before .before .before .scale-of in
     let r = c .before .before .solve-rows in
-    let p = c .before .before .before .before .before .laid in
-    let six = c .before .before .before .before .before .before .before .before .before .before .before .before .if1 .taken in
-    let test = ap (λ (b : Bool). b && lt +0 (s .result)) (sym (c .before .before .before .before .before .before .before .before .before .is-finite .ensures)) ∙ c .before .before .before .before .before .before .before .before .if2 .taken in
+    let p = c .before .before .before .before .before .before .before .laid in
+    let six = c .before .before .before .before .before .before .before .before .before .before .before .before .before .before .if1 .taken in
+    let test = ap (λ (b : Bool). b && lt +0 (s .result)) (sym (c .before .before .before .before .before .before .before .before .before .before .before .is-finite .ensures)) ∙ c .before .before .before .before .before .before .before .before .before .before .if2 .taken in
     c .refused .ensures
     ∙ refuses (a .n) (a .t1) (a .t2) (a .tol *f s .result) (sized-by-scale (a .n) (a .t1) (s .result) six (s .ensures) test) (g .0 .1 .0 .1) (g .1 .0 .1 .0 .1)
-    (p .result) (r .last .1 .1 .1 .0) (r .result) (p .ensures) (r .ensures) (c .before .if3 .left)
+    (p .result) (r .last .1 .1 .1 .0) (r .result) (r .last .1 .1 .1 .1 .1 .0) (p .ensures) (r .ensures) (c .before .if3 .left)
     ∙ scaled (a .n) (a .t1) (a .t2) (a .tol) (s .result) six (s .ensures) test
 
 returns-3 : tie.Need-returns-3
@@ -63,6 +71,7 @@ solve-spec =
     (λ c κs. search needs)
     (λ c κs. search needs)
     (λ c κs. search needs)
+    most-requires
     solve-rows-requires
     (λ c κs. search needs)
     returns
