@@ -16,6 +16,16 @@ pub struct Solved {
     pub updates: usize,
 }
 
+// The number itself. A signalling NaN comes out as a quiet one: to the definitions they are one NaN, but a machine's maximum may answer a signalling one with a NaN, where a quiet one is passed over.
+fn quiet(x: f64) -> f64
+    ensures { λ r. ⌜ r ≡ x ⌝ }
+{
+    if x != x {
+        return 0.0 / 0.0;
+    }
+    x
+}
+
 // The largest magnitude of a row, from +0 on: no row waits for the one before. A -0 is not above +0, so its sign may stay.
 fn row_scale(m: &[f64; 36], n: usize, i: usize) -> f64
     requires { ⌜ (n ≤ 6) × (i < 6) ⌝ }
@@ -24,7 +34,7 @@ fn row_scale(m: &[f64; 36], n: usize, i: usize) -> f64
     let mut acc = 0.0;
     for j in 0..n {
         let k = i * 6 + j;
-        acc = bits::larger(acc, bits::unsigned(m[k]));
+        acc = bits::larger(acc, bits::unsigned(quiet(m[k])));
     }
     acc
 }

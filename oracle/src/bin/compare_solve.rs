@@ -61,10 +61,16 @@ fn solution(m: &[f64; 36], rhs: &[f64; 6], n: usize, tol: f64) -> (u32, [f64; 6]
     (c::solve(m, rhs, n, tol, &mut x, &mut updates), x, updates[0])
 }
 
+/// A signalling NaN made quiet, as every operation does. On aarch64 the Rust's `max` answers a signalling one with a NaN, and its scale begins anew behind it, which shows in the updates
+/// of a system without a solution; on x86-64 it passes every NaN over, and so does the port on any machine (docs/DIFFERENCES.md).
+fn quiet(v: &f64) -> f64 {
+    if v.is_nan() { f64::from_bits(v.to_bits() | 1 << 51) } else { *v }
+}
+
 fn solved(r: &mut Random) -> Shown {
     let n = r.from_to(1, 6);
     let (m, rhs, tol) = system(r, n);
-    let rows: Vec<Vec<f64>> = m.chunks(6).take(n).map(|row| row[..n].to_vec()).collect();
+    let rows: Vec<Vec<f64>> = m.chunks(6).take(n).map(|row| row[..n].iter().map(quiet).collect()).collect();
     let rust = plain::calibrate::solve_linear(rows.clone(), rhs[..n].to_vec(), tol);
     counts::take();
     let counted = solve_linear(rows, rhs[..n].to_vec(), tol);

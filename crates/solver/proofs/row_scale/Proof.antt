@@ -4,7 +4,7 @@ use Prim.Native.Nat.{_-_}
 use lib.Ieee.{Float, lt}
 use mathlib.Core.Bool.{cond}
 use Rattle.solver.specs.Solve.{entry, rowScaleOf}
-use Rattle.laws.specs.Floats.{+0, maxOf, absOf}
+use Rattle.laws.specs.Floats.{+0, maxOf, absOf, unsignedOf}
 use Rattle.laws.specs.Loop.{for}
 use Rattle.laws.proofs.Loops.{again, ended}
 use Rattle.solver.specs.Rows.{NotBelowZero}
@@ -26,9 +26,9 @@ loop-holds c = (refl, zero-not-below)
 
 loop-again : tie.Need-loop-again Inv-loop μ-loop
 loop-again c =
-    let l = c .before .before .before in
+    let l = c .before .before .before .before in
     let b = l .before .loop in
-    let step = c .larger .ensures ∙ ap (λ (u : Float). cond (lt (b .acc) u) u (b .acc)) (c .before .unsigned .ensures) ∙ larger-step _ _ (b .inv .1) in
+    let step = c .larger .ensures ∙ ap (λ (u : Float). cond (lt (b .acc) u) u (b .acc)) (c .before .unsigned .ensures ∙ ap unsignedOf (c .before .before .quiet .ensures)) ∙ larger-step _ _ (b .inv .1) in
     (again _ _ _ (l .loop-test .taken) step (b .inv .0), subst NotBelowZero (sym step) (step-not-below _ _ (b .inv .1)))
 
 returns : tie.Need-returns Inv-loop μ-loop
@@ -47,6 +47,7 @@ row-scale-spec =
     (λ c. omega arith)
     (λ c. omega arith)
     (λ c. omega arith)
+    (λ c κs. search needs)
     (λ c κs. search needs)
     (λ c κs. search needs)
     (λ c. omega arith)
