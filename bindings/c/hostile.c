@@ -432,10 +432,16 @@ static void inside(void)
         int good = !ok || (n >= 1 && n <= 6);
         for (size_t j = 0; j < 6; j++)
             good &= ok && j < n ? isfinite(x[j]) : x[j] == 0;
+        int numbers = 1;
         for (size_t j = 0; j < 36; j++)
-            scale = j / 6 < n && j % 6 < n ? fmax(scale, fabs(m[j])) : scale;
-        /* nothing is updated where the size or the scale is refused; else no more than a matrix without zeros allows */
-        good &= n <= 6 && isfinite(scale) && scale > 0 ? 3 * *updates <= n * (n * n - 1) : !ok && *updates == 0;
+            if (j / 6 < n && j % 6 < n) {
+                numbers &= !isnan(m[j]);
+                scale = fabs(m[j]) > scale ? fabs(m[j]) : scale;
+            }
+        /* nothing is updated where the size or the scale is refused; else no more than a matrix without zeros allows.
+         * With a NaN the scale is not asked for here: valgrind's maximum is another than the machine's on Arm. oracle/compare-solve asks for it, on the machine itself */
+        int refused = n > 6 || (numbers && !(isfinite(scale) && scale > 0));
+        good &= refused ? !ok && *updates == 0 : 3 * *updates <= n * (n * n - 1);
         good &= safe();
         if (!good)
             EXPECT(0);
