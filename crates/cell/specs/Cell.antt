@@ -97,7 +97,7 @@ bestOf o p count = for 0 count (λ t best. pickOf (tryOf o p (faceAt (p .u) (p .
 unfoldable pub cellFrom : Tried → ℕ → ℕ → Cell
 cellFrom t faces updates = record { some = t .some; objective = t .objective; x = t .x; active = faceMarks (t .face); faces = faces; updates = updates }
 
--- where the empty face, tried with the answer e, qualifies, only it is tried; else all are, and the empty one is no second time
+-- where the empty face, tried with the answer e, qualifies, only it is tried; else all are, the empty one not a second time
 unfoldable pub chosenFrom : (List Float → Float) → Problem → ℕ → Tried → Cell
 chosenFrom o p count e = cond (e .some) (cellFrom e 1 (updatesOf p 1)) (cellFrom (bestOf o p count) count (updatesOf p count))
 
