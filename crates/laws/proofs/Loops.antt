@@ -5,6 +5,7 @@ use mathlib.Core.Bool.{Bool, true, false, cond}
 use Prim.Native.Nat.{ℕ, zero, suc, _+_, _-_, _<_, _≤_}
 use native.Mathlib.Omega.{arith}
 use native.Mathlib.Nat.{add-zero, zero-add, eq-or-lt-of-le}
+use native.Mathlib.Numerals.{add-one}
 use Rattle.laws.specs.Loop.{turns, for, search-on, first}
 
 module _ {S : Type 0} (f : ℕ → S → S) (i b : ℕ) where
@@ -68,6 +69,15 @@ module _ {S : Type 0} (f : ℕ → S → S) (P : ℕ → S → Type 0) (b : ℕ)
 -- the same of a property that does not speak of the turn
 pub for-keeps : {S : Type 0} (P : S → Type 0) (f : ℕ → S → S) (b : ℕ) → ((i : ℕ) → i < b → (s : S) → P s → P (f i s)) → (s : S) → P s → P (for 0 b f s)
 for-keeps P f b keeps s p = for-ind f (λ (i : ℕ) (t : _). P t) b (λ j t l. keeps j l t) s p
+
+-- the same of a loop from a on, where the property speaks of how many turns are done
+pub for-turns : {S : Type 0} (f : ℕ → S → S) (P : ℕ → S → Type 0) (a b : ℕ) → ((k : ℕ) (t : S) → a + k < b → P k t → P (k + 1) (f (a + k) t)) → (s : S) → P 0 s → P (b - a) (for a b f s)
+unfolding turns
+for-turns f P a b step s p = go (b - a) (omega arith)
+  where
+    go : (k : ℕ) → k ≤ b - a → P k (turns f k a s)
+    go zero l = p
+    go (suc k) l = subst (P (suc k)) (sym (turns-last f k a s)) (rw add-one at (step k (turns f k a s) (omega arith) (go k (omega arith))))
 
 -- what holds below i and at i holds below i + 1
 pub below-next : (P : ℕ → Type 0) (i : ℕ) → ((k : ℕ) → k < i → P k) → P i → (k : ℕ) → k < i + 1 → P k

@@ -3,9 +3,9 @@ use mathlib.Core.Path.{_≡_, refl, ap, _∙_}
 use Prim.Native.Nat.{ℕ, zero, suc, _+_, _-_, _*_, _≤_, _<_}
 use native.Mathlib.Omega.{arith}
 use native.Mathlib.Numerals.{add-one}
-use native.Mathlib.Nat.{add-zero, mul-zero, mul-add, add-mul, one-mul, zero-mul, zero-add}
+use native.Mathlib.Nat.{add-zero, zero-add}
 use Rattle.laws.specs.Loop.{turns, for, sum}
-use Rattle.laws.proofs.Loops.{turns-last, for-ind}
+use Rattle.laws.proofs.Loops.{turns-last, for-ind, for-turns}
 
 pub sum-none : (g : ℕ → ℕ) → sum 0 g ≡ 0
 unfolding sum turns
@@ -22,10 +22,7 @@ sum-next n g =
 -- terms of at most b
 pub sum-most : (n b : ℕ) (g : ℕ → ℕ) → ((i : ℕ) → i < n → g i ≤ b) → sum n g ≤ n * b
 unfolding sum
-sum-most n b g h = for-ind (λ i t. t + g i) (λ (i t : ℕ). t ≤ i * b) n (λ i t l p. more i t (h i l) p) 0 (let z = zero-mul b in omega arith)
-  where
-    more : (i t : ℕ) → g i ≤ b → t ≤ i * b → t + g i ≤ (i + 1) * b
-    more i t l p = let y = add-mul i 1 b in let o = one-mul b in omega arith
+sum-most n b g h = for-ind (λ i t. t + g i) (λ (i t : ℕ). t ≤ i * b) n (λ i t l p. let q = h i l in omega arith) 0 (omega arith)
 
 -- terms of nothing
 pub sum-still : (a k : ℕ) (g : ℕ → ℕ) → ((i : ℕ) → a ≤ i → i < a + k → g i ≡ 0) → sum (a + k) g ≡ sum a g
@@ -42,39 +39,24 @@ pub sum-times : (c n : ℕ) (g h : ℕ → ℕ) → ((i : ℕ) → i < n → c *
 sum-times c n g h le = go n (omega arith)
   where
     go : (k : ℕ) → k ≤ n → c * sum k g ≤ sum k h
-    go zero l = rw (sum-none g, mul-zero c) (omega arith)
+    go zero l = rw (sum-none g) (omega arith)
     go (suc k) l =
         let p = go k (omega arith) in
         let q = le k (omega arith) in
         let x = sum-next k g in
         let y = sum-next k h in
-        let z = mul-add c (sum k g) (g k) in
-        rw (← add-one k, x, y) (omega (arith, p, q, z))
+        rw (← add-one k, x, y) (omega (arith, p, q))
 
 -- a loop of which each turn adds at most d to a count
 pub for-most : {S : Type 0} (count : S → ℕ) (f : ℕ → S → S) (a b d : ℕ) → ((i : ℕ) (s : S) → i < b → count (f i s) ≤ count s + d) → (s : S) → count (for a b f s) ≤ count s + (b - a) * d
-unfolding turns
-for-most {S} count f a b d step s = go (b - a) a s (omega arith)
-  where
-    go : (k i : ℕ) (s : S) → k ≤ b - i → count (turns f k i s) ≤ count s + k * d
-    go zero i s l = let z = zero-mul d in omega (arith, z)
-    go (suc k) i s l =
-        let p = go k (i + 1) (f i s) (omega arith) in
-        let q = step i s (omega arith) in
-        let y = add-mul k 1 d in
-        let o = one-mul d in
-        rw (← add-one k) (omega (arith, p, q, y, o))
+for-most {S} count f a b d step s = for-turns f (λ (k : ℕ) (t : S). count t ≤ count s + k * d) a b (λ k t l p. let q = step (a + k) t l in omega arith) s (omega arith)
 
--- or exactly d
+-- or exactly d, where something holds at the start that each turn keeps: it holds at the end too
+pub for-adds-where : {S : Type 0} (P : S → Type 0) (count : S → ℕ) (f : ℕ → S → S) (a b d : ℕ) → ((i : ℕ) (s : S) → a ≤ i → i < b → P s → P (f i s) × (count (f i s) ≡ count s + d)) → (s : S) → P s
+    → P (for a b f s) × (count (for a b f s) ≡ count s + (b - a) * d)
+for-adds-where {S} P count f a b d step s p =
+    for-turns f (λ (k : ℕ) (t : S). P t × (count t ≡ count s + k * d)) a b (λ k t l w. let q = step (a + k) t (omega arith) l (w .0) in (q .0, omega arith)) s (p, omega arith)
+
+-- or exactly d, in any state
 pub for-adds : {S : Type 0} (count : S → ℕ) (f : ℕ → S → S) (a b d : ℕ) → ((i : ℕ) (s : S) → i < b → count (f i s) ≡ count s + d) → (s : S) → count (for a b f s) ≡ count s + (b - a) * d
-unfolding turns
-for-adds {S} count f a b d step s = go (b - a) a s (omega arith)
-  where
-    go : (k i : ℕ) (s : S) → k ≤ b - i → count (turns f k i s) ≡ count s + k * d
-    go zero i s l = let z = zero-mul d in omega (arith, z)
-    go (suc k) i s l =
-        let p = go k (i + 1) (f i s) (omega arith) in
-        let q = step i s (omega arith) in
-        let y = add-mul k 1 d in
-        let o = one-mul d in
-        rw (← add-one k) (omega (arith, p, q, y, o))
+for-adds {S} count f a b d step s = for-adds-where (λ (t : S). Unit) count f a b d (λ i t c l p. (tt, step i t l)) s tt .1
