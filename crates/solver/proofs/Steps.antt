@@ -1,9 +1,9 @@
--- Where the code takes a shorter way than the definition: magnitudes that keep the sign of a -0, the scale by rows, a row that changes places with itself, columns left out, and a stop at the first refusal. Assumes nothing.
+-- Where the code takes a shorter way than the definition: magnitudes that keep the sign of a -0, the scale by rows, a row that changes places with itself, columns left out, a stop at the first refusal, and a count down from the most there can be. Assumes nothing.
 use mathlib.Core.Path.{_≡_, refl, sym, ap, ap₂, subst, _∙_}
 use mathlib.Core.Bool.{Bool, true, false, not, _&&_, _||_, cond, Bool·beq}
 use mathlib.Core.List.{List}
 use Prim.Native.Nat.{ℕ, zero, suc, _+_, _-_, _*_, _≤_, _<_}
-use native.Mathlib.Nat.{zero-mul, mul-pos, add-zero, zero-add}
+use native.Mathlib.Nat.{zero-mul, mul-pos, add-zero, zero-add, add-sub-cancel, sub-add-cancel}
 use native.Mathlib.Omega.{arith}
 use lib.Dec.{T, ltb, leb, eqb, ltb→lt}
 use lib.IntN.{ℤ}
@@ -12,7 +12,7 @@ use lib.ListN.{set}
 use lib.Ieee.{Float, nan, inf, fin, up, down, lt, le, eq, ne, neg, isNan, ofBits}
 use lib.Ieee.Fits.{up-pos}
 use lib.Ieee.Bits.{is-true}
-use borrow.Author.Tests.{ltb-true, ltb-false, le-ltb, le-leb, lt-leb}
+use borrow.Author.Tests.{ltb-true, ltb-false, le-ltb, le-leb, lt-leb, not-true, not-false}
 use Rattle.laws.specs.Loop.{turns}
 use Rattle.laws.specs.Floats.{+0, at, absOf, unsignedOf, maxOf}
 use Rattle.laws.proofs.Choices.{false-true, cond-test, if-true, if-false}
@@ -234,49 +234,96 @@ swap-self m a b e = halted (λ j t. exchange t (a * 8 + j) (a * 8 + j)) a 7 (λ 
 
 -- ---- the elimination from a column on: the column is not the system's, it is refused, or it is cleared and the rest goes on
 
-module _ (n : ℕ) (limit : Float) where
+-- three times the most of d + 1 unknowns is three times d rows of d + 1 entries, and three times the most of d
+pub cubic-more : (d : ℕ) → (d + 1) * ((d + 1) * (d + 1) - 1) ≡ 3 * (d * (d + 1)) + d * (d * d - 1)
+cubic-more zero = refl
+cubic-more (suc d) =
+    let x : (suc d + 1) * (suc d + 1) - 1 ≡ d * d + 4 * d + 3 = omega arith in
+    let y : suc d * suc d - 1 ≡ d * d + 2 * d = omega arith in
+    rw (x, y) (omega arith)
+
+-- the most that is still to come where the system has column k, and what of it the column may take
+most-here : (k n : ℕ) → 6 - k ≤ n → mostFrom k n ≡ mostOf (6 - k)
+most-here k n h = ap mostOf (omega arith)
+
+most-split : (k n : ℕ) → k < 6 → 6 - k ≤ n → mostFrom k n ≡ (6 - (k + 1)) * (6 - k) + mostFrom (k + 1) n
+most-split k n l h =
+    let d : ℕ = 6 - (k + 1) in
+    let e : d + 1 ≡ 6 - k = omega arith in
+    let more : mostOf (d + 1) ≡ d * (d + 1) + mostOf d = omega (arith, cubic-more d) in
+    most-here k n h ∙ rw e at more ∙ ap (λ (x : ℕ). d * (6 - k) + x) (sym (most-here (k + 1) n (omega arith)))
+
+pub most-fits : (k : ℕ) {n left : ℕ} → 6 - k ≤ n → mostFrom k n ≤ left → mostOf (6 - k) ≤ left
+most-fits k {n} h p = rw (most-here k n h) at p
+
+pub clear-fits : (k : ℕ) {n left : ℕ} → T (ltb k 6) → 6 - k ≤ n → mostFrom k n ≤ left → (k < 6) × ((6 - (k + 1)) * (6 - k) ≤ left)
+clear-fits k {n} l h p = (ltb→lt k 6 l, omega (arith, most-split k n (ltb→lt k 6 l) h))
+
+-- the columns from k on make w of rows m, whatever was counted before: `left` is that with the most that is still to come
+abbrev pub Makes : ℕ → ℕ → Float → List Float → ℕ → Reduced → Type 0
+Makes k n limit m left w = (u : ℕ) → u + mostFrom k n ≡ left → w ≡ fromIn k n limit (reduced true m u)
+
+-- column k is behind, with rows t and so much still left: what the columns after it make of these, it and they make of m
+pub record Onward (k n : ℕ) (limit : Float) (m : List Float) (left : ℕ) (t : List Float) (still : ℕ) : Type 0 where
+  pub fits : mostFrom k n ≤ left → mostFrom (k + 1) n ≤ still
+  pub makes : (w : Reduced) → Makes (k + 1) n limit t still w → Makes k n limit m left w
+
+module _ (k n : ℕ) (limit : Float) where
   -- one column where the system has it
   abbrev turn : ℕ → Reduced → Reduced
   turn col s = cond (leb 6 (n + col)) (columnIn limit col s) s
 
-  one-column : (k : ℕ) (s : Reduced) → k < 6 → fromIn (k + 1) n limit (turn k s) ≡ fromIn k n limit s
+  one-column : (s : Reduced) → k < 6 → fromIn (k + 1) n limit (turn k s) ≡ fromIn k n limit s
   unfolding fromIn
-  one-column k s l = again turn k 6 l refl refl
+  one-column s l = again turn k 6 l refl refl
 
-  pub left-out : (k : ℕ) (m : List Float) (v : ℕ) {w : Reduced} → n < 6 - k → w ≡ fromIn (k + 1) n limit (reduced true m v) → w ≡ fromIn k n limit (reduced true m v)
-  left-out k m v {w} h e = e ∙ ap (fromIn (k + 1) n limit) (if-false _ (lt-leb 6 (n + k) (omega arith)) refl) ∙ one-column k (reduced true m v) (omega arith)
+  raised : (m : List Float) (u : ℕ) {t : Room} → T (ltb k 6) → 6 - k ≤ n → t ≡ raisedIn limit k (pivotIn k m) m → fromIn (k + 1) n limit (clearedIn k t u) ≡ fromIn k n limit (reduced true m u)
+  unfolding columnIn
+  raised m u l h e = ap (fromIn (k + 1) n limit) (if-true _ (le-leb 6 (n + k) (omega arith)) (ap (λ (s : Room). clearedIn k s u) e)) ∙ one-column (reduced true m u) (ltb→lt k 6 l)
 
-  module _ (k : ℕ) (m : List Float) (v : ℕ) {t : List Float} {r : Bool} (l : T (ltb k 6)) (h : 6 - k ≤ n) (e : room r t ≡ raisedIn limit k (pivotIn k m) m) where
-    brought : clearedIn k (room r t) v ≡ turn k (reduced true m v)
-    unfolding columnIn
-    brought = if-true _ (le-leb 6 (n + k) (omega arith)) (ap (λ (s : Room). clearedIn k s v) e)
+  -- the pivot refuses: nothing more is counted
+  pub stopped : (m : List Float) {t : List Float} {r : Bool} (left : ℕ) → T (ltb k 6) → 6 - k ≤ n → room r t ≡ raisedIn limit k (pivotIn k m) m → not r ≡ true → Makes k n limit m left (reduced false t (left - mostOf (6 - k)))
+  unfolding fromIn columnIn clearedIn
+  stopped m {t} {r} left l h e f u b =
+      ap (reduced false t) (ap₂ _-_ (sym b) (sym (most-here k n h)) ∙ add-sub-cancel u (mostFrom k n))
+      ∙ halted turn (k + 1) 6 (λ j. cond-same (leb 6 (n + j))) (ap (λ (c : Bool). fromIn (k + 1) n limit (clearedIn k (room c t) u)) (sym (not-true r f)) ∙ raised m u l h e)
 
-    pub stopped : r ≡ false → reduced false t v ≡ fromIn k n limit (reduced true m v)
-    unfolding fromIn columnIn clearedIn
-    stopped f =
-        let s = ap (λ (b : Bool). clearedIn k (room b t) v) (sym f) ∙ brought in
-        halted turn (k + 1) 6 (λ j. cond-same (leb 6 (n + j))) (ap (fromIn (k + 1) n limit) s ∙ one-column k (reduced true m v) (ltb→lt k 6 l))
+module _ (k : ℕ) {n : ℕ} {limit : Float} {m : List Float} {left : ℕ} {t : List Float} {still : ℕ} where
+  -- the pivot is brought up, and the rows below it are cleared
+  pub cleared : {r : Bool} {p q : List Float} {v : ℕ} → T (ltb k 6) → 6 - k ≤ n → room r p ≡ raisedIn limit k (pivotIn k m) m → not r ≡ false
+      → ((u rest : ℕ) → u + (6 - (k + 1)) * (6 - k) + rest ≡ left → (reduced true q (v - rest) ≡ clearIn k (reduced true p u)) × (rest ≤ v)) → t ≡ q → still ≡ v → Onward k n limit m left t still
+  unfolding clearedIn
+  cleared {r} {p} {q} {v} l h e f g c d =
+      let next : ℕ = mostFrom (k + 1) n in
+      let split : (u : ℕ) → u + mostFrom k n ≡ left → u + (6 - (k + 1)) * (6 - k) + next ≡ left = λ u b. omega (arith, most-split k n (ltb→lt k 6 l) h) in
+      rw (c, d)
+      (record {
+        fits = λ a. g (left - mostFrom k n) next (split (left - mostFrom k n) (sub-add-cancel a)) .1;
+        makes = λ w z u b.
+            let y = g u next (split u b) in
+            z (v - next) (sub-add-cancel (y .1)) ∙ ap (fromIn (k + 1) n limit) (y .0 ∙ ap (λ (c : Bool). clearedIn k (room c p) u) (sym (not-false r f))) ∙ raised k n limit m u l h e;
+      })
 
-    pub cleared : {u : Reduced} {w : Reduced} → r ≡ true → u ≡ clearIn k (reduced true t v) → w ≡ fromIn (k + 1) n limit u → w ≡ fromIn k n limit (reduced true m v)
-    unfolding clearedIn
-    cleared {u} {w} f g d =
-        let s = g ∙ ap (λ (b : Bool). clearedIn k (room b t) v) (sym f) ∙ brought in
-        d ∙ ap (fromIn (k + 1) n limit) s ∙ one-column k (reduced true m v) (ltb→lt k 6 l)
-
--- the most that is still to come: of a column that the system has, and of one that it has not
-pub most-here : (k n : ℕ) → 6 - k ≤ n → mostFrom k n ≡ mostOf (6 - k)
-most-here k n h = ap mostOf (omega arith)
-
-pub most-next : (k n : ℕ) → n < 6 - k → mostFrom (k + 1) n ≡ mostFrom k n
-most-next k n h = ap mostOf (omega arith)
+  -- or the system has not the column
+  pub left-out : n < 6 - k → t ≡ m → still ≡ left → Onward k n limit m left t still
+  left-out h d e =
+      let z : mostFrom (k + 1) n ≡ mostFrom k n = ap mostOf (omega arith) in
+      rw (d, e)
+      (record {
+        fits = λ p. omega (arith, z);
+        makes = λ w g u b. g u (ap (λ (x : ℕ). u + x) z ∙ b) ∙ ap (fromIn (k + 1) n limit) (if-false _ (lt-leb 6 (n + k) (omega arith)) refl) ∙ one-column k n limit (reduced true m u) (omega arith);
+      })
 
 -- the last column: its pivot is in its place, and nothing is below it
-pub last-column : (n : ℕ) (limit : Float) (m : List Float) (v : ℕ) {small : Bool} → 1 ≤ n → small ≡ le (absOf (at m 45)) limit → reduced (not small) m v ≡ fromIn 5 n limit (reduced true m v)
+pub last-column : (n : ℕ) (limit : Float) (m : List Float) {x : Float} (left : ℕ) → 1 ≤ n → x ≡ unsignedOf (at m 45) → Makes 5 n limit m left (reduced (not (le x limit)) m left)
 unfolding fromIn turns columnIn raisedIn pivotIn clearedIn clearIn
-last-column n limit m v {small} h e =
+last-column n limit m {x} left h e u b =
     let here : 6 ≤ n + 5 = omega arith in
-    if-true _ (le-leb 6 (n + 5) here) (go small ∙ ap (λ (b : Bool). clearedIn 5 (cond b (room false m) (room true (swapIn 5 5 m))) v) e)
+    let none : left ≡ u = omega (arith, most-here 5 n h) in
+    ap (reduced (not (le x limit)) m) none
+    ∙ if-true _ (le-leb 6 (n + 5) here)
+    (go (le x limit) ∙ ap (λ (b : Bool). clearedIn 5 (cond b (room false m) (room true (swapIn 5 5 m))) u) (ap (λ (x : Float). le x limit) e ∙ le-unsigned (at m 45) limit))
   where
-    go : (b : Bool) → reduced (not b) m v ≡ clearedIn 5 (cond b (room false m) (room true (swapIn 5 5 m))) v
+    go : (b : Bool) → reduced (not b) m u ≡ clearedIn 5 (cond b (room false m) (room true (swapIn 5 5 m))) u
     go true = refl
-    go false = ap (λ (t : List Float). reduced true t v) (swap-self m 5 5 refl)
+    go false = ap (λ (t : List Float). reduced true t u) (swap-self m 5 5 refl)
