@@ -51,12 +51,8 @@ sum-times c n g h le = go n (omega arith)
 pub for-most : {S : Type 0} (count : S → ℕ) (f : ℕ → S → S) (a b d : ℕ) → ((i : ℕ) (s : S) → i < b → count (f i s) ≤ count s + d) → (s : S) → count (for a b f s) ≤ count s + (b - a) * d
 for-most {S} count f a b d step s = for-turns f (λ (k : ℕ) (t : S). count t ≤ count s + k * d) a b (λ k t l p. let q = step (a + k) t l in omega arith) s (omega arith)
 
--- or exactly d, where something holds at the start that each turn keeps: it holds at the end too
-pub for-adds-where : {S : Type 0} (P : S → Type 0) (count : S → ℕ) (f : ℕ → S → S) (a b d : ℕ) → ((i : ℕ) (s : S) → a ≤ i → i < b → P s → P (f i s) × (count (f i s) ≡ count s + d)) → (s : S) → P s
-    → P (for a b f s) × (count (for a b f s) ≡ count s + (b - a) * d)
-for-adds-where {S} P count f a b d step s p =
-    for-turns f (λ (k : ℕ) (t : S). P t × (count t ≡ count s + k * d)) a b (λ k t l w. let q = step (a + k) t (omega arith) l (w .0) in (q .0, omega arith)) s (p, omega arith)
-
--- or exactly d, in any state
-pub for-adds : {S : Type 0} (count : S → ℕ) (f : ℕ → S → S) (a b d : ℕ) → ((i : ℕ) (s : S) → i < b → count (f i s) ≡ count s + d) → (s : S) → count (for a b f s) ≡ count s + (b - a) * d
-for-adds {S} count f a b d step s = for-adds-where (λ (t : S). Unit) count f a b d (λ i t c l p. (tt, step i t l)) s tt .1
+-- or exactly d, where something holds at the start that each turn keeps
+pub for-adds : {S : Type 0} (P : S → Type 0) (count : S → ℕ) (f : ℕ → S → S) (a b d : ℕ) → ((i : ℕ) → a ≤ i → i < b → (s : S) → P s → P (f i s) × (count (f i s) ≡ count s + d)) → (s : S) → P s
+    → count (for a b f s) ≡ count s + (b - a) * d
+for-adds {S} P count f a b d step s p =
+    for-turns f (λ (k : ℕ) (t : S). P t × (count t ≡ count s + k * d)) a b (λ k t l w. let q = step (a + k) (omega arith) l t (w .0) in (q .0, omega arith)) s (p, omega arith) .1

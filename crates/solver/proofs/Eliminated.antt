@@ -6,15 +6,13 @@ use mathlib.Core.List.{List}
 use Prim.Native.Nat.{ℕ, _+_, _-_, _*_, _≤_, _<_, min}
 use native.Mathlib.Omega.{arith}
 use lib.Dec.{leb}
-use lib.ListN.{length, set, replicate, length-set, length-replicate}
+use lib.ListN.{length, set, length-set}
 use lib.Seq.{getD-set-same, getD-set-other}
 use lib.Ieee.{Float, nan, le, eq}
 use borrow.Author.Tests.{le-leb, lt-leb}
 use Rattle.laws.specs.Loop.{turns, for}
 use Rattle.laws.specs.Floats.{_-f_, _*f_, _/f_, +0, at, absOf}
-use Rattle.laws.specs.Room.{filledOn}
 use Rattle.laws.proofs.Choices.{false-true}
-use Rattle.laws.proofs.Rooms.{filled-at}
 use Rattle.solver.specs.Solve.{
   System,
   after,
@@ -24,7 +22,6 @@ use Rattle.solver.specs.Solve.{
   exchange,
   swapRows,
   swapped,
-  matrixRow,
   minusOf,
   factorOf,
   rowDone,
@@ -40,20 +37,16 @@ use Rattle.solver.proofs.Views.{Stands, Stepped}
 
 -- ---- the loops over one row
 
--- the copy of a row holds its entries
-pub row-at : (m : List Float) (i j : ℕ) → j < 6 → at (matrixRow m i) j ≡ entry m i j
-unfolding filledOn
-row-at m i j l = filled-at (entry m i) nan 6 j (replicate 6 +0) (omega (arith, length-replicate 6 +0)) l
-
--- the plain form's row less a multiple of the values
-minus-is : (n col : ℕ) (values : List Float) (row : ℕ) (φ : Float) (m : List Float) → n ≤ 6 → col ≤ n → row < 6 → length m ≡ 36
-    → Rewritten (row * 6) col n (λ j. entry m row j -f φ *f at values j) m (minusOf n col values row φ m)
+-- the plain form's row less a multiple of row col, which is not touched
+minus-is : (n col row : ℕ) (φ : Float) (m : List Float) → n ≤ 6 → col ≤ n → row < 6 → (row ≡ col → ⊥) → length m ≡ 36
+    → Rewritten (row * 6) col n (λ j. entry m row j -f φ *f entry m col j) m (minusOf n col row φ m)
 unfolding minusOf
-minus-is n col values row φ m p q r e =
-    rewritten (row * 6) col n (λ j l. entry l row j -f φ *f at values j) (λ j. entry m row j -f φ *f at values j) m q (omega arith)
-    (λ j l a b w. ap (λ (x : Float). x -f φ *f at values j) (w .outside (row * 6 + j) (λ i c d k. omega arith)))
+minus-is n col row φ m p q r ne e =
+    rewritten (row * 6) col n (λ j l. entry l row j -f φ *f entry l col j) (λ j. entry m row j -f φ *f entry m col j) m q (omega arith)
+    (λ j l a b w.
+    ap₂ (λ (x y : Float). x -f φ *f y) (w .outside (row * 6 + j) (λ i c d k. omega arith)) (w .outside (col * 6 + j) (λ i c d k. ne (omega arith))))
 
--- and that of the rows of eight: row col is not touched
+-- and that of the rows of eight
 less-is : (col row : ℕ) (φ : Float) (t : List Float) → col < 6 → row < 6 → (row ≡ col → ⊥) → length t ≡ 48
     → Rewritten (row * 8) (col + 1) 7 (λ j. spot t row j -f φ *f spot t col j) t (lessIn col row φ t)
 unfolding lessIn
@@ -103,14 +96,13 @@ pub record Together (n o col : ℕ) (s : System) (u : Reduced) : Type 0 where
   pub updates : s .updates ≡ u .updates
   pub live : s .ok ≡ true → Live n o col (s .m) (s .rhs) (u .m)
 
--- what they share while the rows below col are cleared, those from row on still to do; the values are the pivot's row
-pub record Clearing (n o col : ℕ) (values : List Float) (row : ℕ) (s : System) (u : Reduced) : Type 0 where
+-- what they share while the rows below col are cleared, those from row on still to do
+pub record Clearing (n o col row : ℕ) (s : System) (u : Reduced) : Type 0 where
   pub ok : s .ok ≡ true
   pub stands : u .ok ≡ true
   pub updates : s .updates ≡ u .updates
   pub live : Live n o (col + 1) (s .m) (s .rhs) (u .m)
   pub rest : (i : ℕ) → row ≤ i → i < n → entry (s .m) i col ≡ spot (u .m) (i + o) (col + o)
-  pub pivot : (j : ℕ) → col ≤ j → j < n → at values j ≡ spot (u .m) (col + o) (j + o)
 
 -- what holds of both arms holds of two choices by one test
 cond-both : {S T : Type 0} (P : S → T → Type 0) (b : Bool) {x y : S} {z w : T} → P x z → P y w → P (cond b x y) (cond b z w)
@@ -173,10 +165,10 @@ module _ (n o : ℕ) (six : n + o ≡ 6) (col : ℕ) (below : col < n) where
       pr = omega (arith, w .right)
 
   -- a row is cleared, whatever the factor
-  row-clear : (values : List Float) (row : ℕ) (φ : Float) (s : System) (u : Reduced) → col + 1 ≤ row → row < n → Clearing n o col values row s u
-      → Clearing n o col values (row + 1) (after (s .ok) (minusOf n col values row φ (s .m)) (set (s .rhs) row (at (s .rhs) row -f φ *f at (s .rhs) col)) (s .updates + (n - col)))
+  row-clear : (row : ℕ) (φ : Float) (s : System) (u : Reduced) → col + 1 ≤ row → row < n → Clearing n o col row s u
+      → Clearing n o col (row + 1) (after (s .ok) (minusOf n col row φ (s .m)) (set (s .rhs) row (at (s .rhs) row -f φ *f at (s .rhs) col)) (s .updates + (n - col)))
       (reduced (u .ok) (lessIn (col + o) (row + o) φ (u .m)) (u .updates + (6 - (col + o))))
-  row-clear values row φ s u c d w =
+  row-clear row φ s u c d w =
       record {
         ok = w .ok;
         stands = w .stands;
@@ -189,7 +181,7 @@ module _ (n o : ℕ) (six : n + o ≡ 6) (col : ℕ) (below : col < n) where
               entries = λ i j a b h.
                   by-eq i row
                   (λ e. rw e (M .inside j (omega arith) b
-                  ∙ ap₂ (λ (x y : Float). x -f φ *f y) (l .entries row j d b (omega arith)) (w .pivot j (omega arith) b) ∙ sym (Q .inside (j + o) (omega arith) (omega arith))))
+                  ∙ ap₂ (λ (x y : Float). x -f φ *f y) (l .entries row j d b (omega arith)) (l .entries col j below b (omega arith)) ∙ sym (Q .inside (j + o) (omega arith) (omega arith))))
                   (λ ne. kept i j (omega arith) ne ∙ l .entries i j a b h ∙ sym (wide-kept i (j + o) (omega arith) ne));
               rights = λ i a.
                   by-eq i row
@@ -198,7 +190,6 @@ module _ (n o : ℕ) (six : n + o ≡ 6) (col : ℕ) (below : col < n) where
                   (λ ne. getD-set-other (s .rhs) row i (at (s .rhs) row -f φ *f at (s .rhs) col) nan ne ∙ l .rights i a ∙ sym (wide-kept i 6 (omega arith) ne));
             };
         rest = λ i a b. kept i col (omega arith) (λ e. omega arith) ∙ w .rest i (omega arith) b ∙ sym (wide-kept i (col + o) (omega arith) (λ e. omega arith));
-        pivot = λ j a b. w .pivot j a b ∙ sym (wide-kept col (j + o) (omega arith) (λ e. omega arith));
       }
     where
       t : List Float
@@ -207,43 +198,42 @@ module _ (n o : ℕ) (six : n + o ≡ 6) (col : ℕ) (below : col < n) where
       l : Live n o (col + 1) (s .m) (s .rhs) t
       l = w .live
 
-      M : Rewritten (row * 6) col n (λ j. entry (s .m) row j -f φ *f at values j) (s .m) (minusOf n col values row φ (s .m))
-      M = minus-is n col values row φ (s .m) (omega arith) (omega arith) (omega arith) (l .size)
+      M : Rewritten (row * 6) col n (λ j. entry (s .m) row j -f φ *f entry (s .m) col j) (s .m) (minusOf n col row φ (s .m))
+      M = minus-is n col row φ (s .m) (omega arith) (omega arith) (omega arith) (λ e. omega arith) (l .size)
 
       Q : Rewritten ((row + o) * 8) (col + o + 1) 7 (λ j. spot t (row + o) j -f φ *f spot t (col + o) j) t (lessIn (col + o) (row + o) φ t)
       Q = less-is (col + o) (row + o) φ t (omega arith) (omega arith) (λ e. omega arith) (l .wide)
 
-      kept : (i j : ℕ) → j < 6 → (i ≡ row → ⊥) → entry (minusOf n col values row φ (s .m)) i j ≡ entry (s .m) i j
+      kept : (i j : ℕ) → j < 6 → (i ≡ row → ⊥) → entry (minusOf n col row φ (s .m)) i j ≡ entry (s .m) i j
       kept i j a ne = M .outside (i * 6 + j) (λ k g h e. ne (omega arith))
 
       wide-kept : (i j : ℕ) → j < 7 → (i ≡ row → ⊥) → spot (lessIn (col + o) (row + o) φ t) (i + o) j ≡ spot t (i + o) j
       wide-kept i j a ne = Q .outside ((i + o) * 8 + j) (λ k g h e. ne (omega arith))
 
   -- one row of both forms
-  row-same : (values : List Float) (row : ℕ) (φ : Float) (s : System) (u : Reduced) → col + 1 ≤ row → row < n → Clearing n o col values row s u
-      → Clearing n o col values (row + 1) (rowDone n col values row φ s) (rowIn (col + o) (row + o) φ u)
+  row-same : (row : ℕ) (φ : Float) (s : System) (u : Reduced) → col + 1 ≤ row → row < n → Clearing n o col row s u
+      → Clearing n o col (row + 1) (rowDone n col row φ s) (rowIn (col + o) (row + o) φ u)
   unfolding rowDone rowIn
-  row-same values row φ s u c d w =
-      cond-both (Clearing n o col values (row + 1)) (eq φ +0)
-      (record { ok = w .ok; stands = w .stands; updates = w .updates; live = w .live; rest = λ i a b. w .rest i (omega arith) b; pivot = w .pivot })
-      (row-clear values row φ s u c d w)
+  row-same row φ s u c d w =
+      cond-both (Clearing n o col (row + 1)) (eq φ +0)
+      (record { ok = w .ok; stands = w .stands; updates = w .updates; live = w .live; rest = λ i a b. w .rest i (omega arith) b })
+      (row-clear row φ s u c d w)
 
   -- all rows below col
-  below-same : (values : List Float) (s : System) (u : Reduced) → Clearing n o col values (col + 1) s u
-      → Clearing n o col values n (belowOf n col values s) (clearIn (col + o) u)
+  below-same : (s : System) (u : Reduced) → Clearing n o col (col + 1) s u → Clearing n o col n (belowOf n col s) (clearIn (col + o) u)
   unfolding belowOf clearIn
-  below-same values s u w =
-      for-both (λ row s. rowDone n col values row (factorOf col values row (s .m)) s) (λ row u. rowIn (col + o) row (spot (u .m) row (col + o) /f spot (u .m) (col + o) (col + o)) u)
-      (Clearing n o col values) (col + 1) n o
+  below-same s u w =
+      for-both (λ row s. rowDone n col row (factorOf col row (s .m)) s) (λ row u. rowIn (col + o) row (spot (u .m) row (col + o) /f spot (u .m) (col + o) (col + o)) u)
+      (Clearing n o col) (col + 1) n o
       (λ row s u c d w.
-      subst (λ (φ : Float). Clearing n o col values (row + 1) (rowDone n col values row (factorOf col values row (s .m)) s) (rowIn (col + o) (row + o) φ u))
-      (ap₂ _/f_ (w .rest row (omega arith) d) (w .pivot col (omega arith) below))
-      (row-same values row (factorOf col values row (s .m)) s u c d w))
+      subst (λ (φ : Float). Clearing n o col (row + 1) (rowDone n col row (factorOf col row (s .m)) s) (rowIn (col + o) (row + o) φ u))
+      (ap₂ _/f_ (w .rest row (omega arith) d) (w .live .entries col col below below (omega arith)))
+      (row-same row (factorOf col row (s .m)) s u c d w))
       (col + o + 1) 6 s u (omega arith) (omega arith) (omega arith) w
 
   -- the rows have changed places, and those below are to be cleared
   clearing-starts : (p : ℕ) (s : System) (t : List Float) (k : ℕ) → s .ok ≡ true → s .updates ≡ k → col ≤ p → p < n → Live n o col (s .m) (s .rhs) t
-      → Clearing n o col (matrixRow (swapRows (s .m) col p) col) (col + 1) (swapped s col p) (reduced true (swapIn (col + o) (p + o) t) k)
+      → Clearing n o col (col + 1) (swapped s col p) (reduced true (swapIn (col + o) (p + o) t) k)
   clearing-starts p s t k e f c d w =
       let l : Live n o col (swapRows (s .m) col p) (exchange (s .rhs) col p) (swapIn (col + o) (p + o) t) = swap-live p (s .m) (s .rhs) t c d w in
       record {
@@ -252,18 +242,17 @@ module _ (n o : ℕ) (six : n + o ≡ 6) (col : ℕ) (below : col < n) where
         updates = f;
         live = record { size = l .size; right = l .right; wide = l .wide; entries = λ i j a b h. l .entries i j a b (omega arith); rights = l .rights };
         rest = λ i a b. l .entries i col b below (omega arith);
-        pivot = λ j a b. row-at (swapRows (s .m) col p) col j (omega arith) ∙ l .entries col j below b (omega arith);
       }
 
   -- the pivot is in row p: both refuse, or both go on
   raised-same : (p : ℕ) (s : System) (t : List Float) (k : ℕ) (b c : Bool) → b ≡ c → s .ok ≡ true → s .updates ≡ k → col ≤ p → p < n → Live n o col (s .m) (s .rhs) t
-      → Together n o (col + 1) (cond b (after false (s .m) (s .rhs) (s .updates)) (belowOf n col (matrixRow (swapRows (s .m) col p) col) (swapped s col p)))
+      → Together n o (col + 1) (cond b (after false (s .m) (s .rhs) (s .updates)) (belowOf n col (swapped s col p)))
       (clearedIn (col + o) (cond c (room false t) (room true (swapIn (col + o) (p + o) t))) k)
   unfolding clearedIn
   raised-same p s t k true true h e f c d w = record { ok = refl; updates = f; live = λ z. false-true z }
   raised-same p s t k false false h e f c d w =
-      let z : Clearing n o col (matrixRow (swapRows (s .m) col p) col) n (belowOf n col (matrixRow (swapRows (s .m) col p) col) (swapped s col p)) (clearIn (col + o) (reduced true (swapIn (col + o) (p + o) t) k)) =
-      below-same (matrixRow (swapRows (s .m) col p) col) (swapped s col p) (reduced true (swapIn (col + o) (p + o) t) k) (clearing-starts p s t k e f c d w) in
+      let z : Clearing n o col n (belowOf n col (swapped s col p)) (clearIn (col + o) (reduced true (swapIn (col + o) (p + o) t) k)) =
+      below-same (swapped s col p) (reduced true (swapIn (col + o) (p + o) t) k) (clearing-starts p s t k e f c d w) in
       record { ok = z .ok ∙ sym (z .stands); updates = z .updates; live = λ q. z .live }
   raised-same p s t k true false h e f c d w = false-true (sym h)
   raised-same p s t k false true h e f c d w = false-true h

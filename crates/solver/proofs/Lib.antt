@@ -1,6 +1,7 @@
 pub mod Backed
 pub mod Eliminated
 pub mod NanPivot
+pub mod NoCopy
 pub mod Placed
 pub mod Same
 pub mod Segments

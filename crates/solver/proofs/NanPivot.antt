@@ -3,14 +3,13 @@
 use mathlib.Core.Path.{_≡_, refl, sym, ap, subst, _∙_}
 use mathlib.Core.Bool.{Bool, true, false, _&&_, cond}
 use mathlib.Core.List.{List}
-use Prim.Native.Nat.{ℕ, zero, suc, _+_, _-_, _*_, _≤_, _<_}
+use Prim.Native.Nat.{ℕ, _+_, _-_, _*_, _≤_, _<_}
 use native.Mathlib.Omega.{arith}
 use lib.Dec.{ltb, leb}
 use lib.ListN.{length, set, replicate, length-set, List·getD-eq-default}
 use lib.Seq.{getD-set-same, getD-set-other}
 use lib.Ieee.{Float, nan, inf, fin, le, lt, eq, div, isNan}
 use borrow.Author.Tests.{ltb-true, ltb-false, leb-true}
-use Rattle.laws.specs.Loop.{turns, for}
 use Rattle.laws.specs.Floats.{_-f_, _*f_, _/f_, +0, at, absOf, finite, positive}
 use Rattle.laws.proofs.Choices.{false-true, if-true, if-false, cond-ind, cond-test}
 use Rattle.laws.proofs.Floats.{is-nan}
@@ -28,8 +27,6 @@ use Rattle.solver.specs.Solve.{
   exchange,
   swapRows,
   swapped,
-  matrixRow,
-  minusOf,
   factorOf,
   rowDone,
   belowOf,
@@ -47,21 +44,11 @@ use Rattle.solver.specs.Solve.{
   scaleOf,
   solveOf,
 }
-use Rattle.solver.proofs.Segments.{by-eq}
-use Rattle.solver.proofs.Eliminated.{row-at}
+use Rattle.solver.proofs.Segments.{by-eq, loop-keeps}
+use Rattle.solver.proofs.NoCopy.{row-stays, below-stays}
 use Rattle.solver.proofs.Solutions.{eliminated-sound}
 use Rattle.solver.proofs.Placed.{none-found}
 use Rattle.solver.proofs.Whole.{sized}
-
--- what each turn of a loop over a..b keeps, the loop keeps
-module _ {S : Type 0} (P : S → Type 0) (f : ℕ → S → S) (a b : ℕ) (keeps : (i : ℕ) → a ≤ i → i < b → (s : S) → P s → P (f i s)) where
-  turns-keep : (k i : ℕ) (s : S) → a ≤ i → k ≤ b - i → P s → P (turns f k i s)
-  unfolding turns
-  turns-keep zero i s l r p = p
-  turns-keep (suc k) i s l r p = turns-keep k (i + 1) (f i s) (omega arith) (omega arith) (keeps i l (omega arith) s p)
-
-  loop-keeps : (s : S) → P s → P (for a b f s)
-  loop-keeps s p = turns-keep (b - a) a s (omega arith) (omega arith) p
 
 -- ---- the test
 
@@ -73,21 +60,21 @@ not-at-most (inf s) limit h = false-true h
 not-at-most (fin s m e) limit h = false-true h
 
 -- clearing the rows below a column refuses nothing
-below-ok : (n col : ℕ) (values : List Float) (s : System) → belowOf n col values s .ok ≡ s .ok
+below-ok : (n col : ℕ) (s : System) → belowOf n col s .ok ≡ s .ok
 unfolding belowOf rowDone
-below-ok n col values s =
-    loop-keeps (λ (t : System). t .ok ≡ s .ok) (λ row t. rowDone n col values row (factorOf col values row (t .m)) t) (col + 1) n
-    (λ row c d t h. cond-ind (λ (t : System). t .ok ≡ s .ok) (eq (factorOf col values row (t .m)) +0) h h) s refl
+below-ok n col s =
+    loop-keeps (λ (t : System). t .ok ≡ s .ok) (λ row t. rowDone n col row (factorOf col row (t .m)) t) (col + 1) n
+    (λ row c d t h. cond-ind (λ (t : System). t .ok ≡ s .ok) (eq (factorOf col row (t .m)) +0) h h) s refl
 
 -- a system that stands, whose pivot in a column is a NaN, is not refused there: the pivot's row comes up, and the rows below are cleared
 pub nan-pivot-goes-on : (n : ℕ) (limit : Float) (col : ℕ) (s : System) → s .ok ≡ true → isNan (pivotOf n (s .m) col) ≡ true
-    → columnOf n limit col s ≡ belowOf n col (matrixRow (swapRows (s .m) col (pivotRowOf n (s .m) col)) col) (swapped s col (pivotRowOf n (s .m) col))
+    → columnOf n limit col s ≡ belowOf n col (swapped s col (pivotRowOf n (s .m) col))
 unfolding columnOf pivoted
 nan-pivot-goes-on n limit col s stands h = sym (if-true s stands (if-false _ (not-at-most (pivotOf n (s .m) col) limit h) refl))
 
 -- so it stands after that column too
 pub nan-pivot-passes : (n : ℕ) (limit : Float) (col : ℕ) (s : System) → s .ok ≡ true → isNan (pivotOf n (s .m) col) ≡ true → columnOf n limit col s .ok ≡ true
-nan-pivot-passes n limit col s stands h = ap (λ (t : System). t .ok) (nan-pivot-goes-on n limit col s stands h) ∙ below-ok n col _ _ ∙ stands
+nan-pivot-passes n limit col s stands h = ap (λ (t : System). t .ok) (nan-pivot-goes-on n limit col s stands h) ∙ below-ok n col _ ∙ stands
 
 -- ---- the NaN comes to the diagonal, and stays there
 
@@ -137,18 +124,8 @@ unfolding swapRows
 swap-keeps k a b m p q h = for-keeps (NanAt k) (λ j m. exchange m (a * 6 + j) (b * 6 + j)) 6 (λ j l m w. exchange-keeps k (a * 6 + j) (b * 6 + j) m (λ e. omega arith) (λ e. omega arith) w) m h
 
 -- the rows below are cleared
-minus-keeps : (k n col : ℕ) (values : List Float) (row : ℕ) (φ : Float) (m : List Float) → k < row * 6 → NanAt k m → NanAt k (minusOf n col values row φ m)
-unfolding minusOf
-minus-keeps k n col values row φ m p h =
-    loop-keeps (NanAt k) (λ j m. set m (row * 6 + j) (entry m row j -f φ *f at values j)) col n
-    (λ j c d m w. set-keeps k (row * 6 + j) (entry m row j -f φ *f at values j) m (λ e. omega arith) w) m h
-
-below-keeps : (k n col : ℕ) (values : List Float) (s : System) → k < (col + 1) * 6 → NanAt k (s .m) → NanAt k (belowOf n col values s .m)
-unfolding belowOf rowDone
-below-keeps k n col values s p h =
-    loop-keeps (λ (t : System). NanAt k (t .m)) (λ row t. rowDone n col values row (factorOf col values row (t .m)) t) (col + 1) n
-    (λ row c d t w. cond-ind (λ (t : System). NanAt k (t .m)) (eq (factorOf col values row (t .m)) +0) w
-    (minus-keeps k n col values row (factorOf col values row (t .m)) (t .m) (omega arith) w)) s h
+below-keeps : (k n col : ℕ) (s : System) → k < (col + 1) * 6 → NanAt k (s .m) → NanAt k (belowOf n col s .m)
+below-keeps k n col s p h = ap isNan (below-stays k n col s p) ∙ h
 
 -- the pivot's row is none above its column
 pivot-from : (n col : ℕ) (m : List Float) → col ≤ pivotRowOf n m col
@@ -158,14 +135,14 @@ pivot-from n col m =
     (λ i c d p w. cond-ind (λ (p : ℕ). col ≤ p) (ranked (absOf (entry m p col)) (absOf (entry m i col))) (omega arith) w) col (omega arith)
 
 -- every row below a NaN pivot has a factor that is a NaN, so that all its entries from the pivot's column on are updated
-below-counts : (n col : ℕ) (values : List Float) (s : System) → isNan (at values col) ≡ true → belowOf n col values s .updates ≡ s .updates + (n - (col + 1)) * (n - col)
+below-counts : (n col : ℕ) (s : System) → col < 6 → NanAt (col * 6 + col) (s .m) → belowOf n col s .updates ≡ s .updates + (n - (col + 1)) * (n - col)
 unfolding belowOf rowDone div eq
-below-counts n col values s h =
-    for-adds (λ (t : System). t .updates) (λ row t. rowDone n col values row (factorOf col values row (t .m)) t) (col + 1) n (n - col)
-    (λ row t l. sym (ap (λ (u : System). u .updates) (if-false t (no-zero (entry (t .m) row col)) refl))) s
+below-counts n col s c h =
+    for-adds (λ (t : System). NanAt (col * 6 + col) (t .m)) (λ (t : System). t .updates) (λ row t. rowDone n col row (factorOf col row (t .m)) t) (col + 1) n (n - col)
+    (λ row a b t w. (ap isNan (row-stays (col * 6 + col) n col row (factorOf col row (t .m)) t (omega arith)) ∙ w, sym (ap (λ (u : System). u .updates) (if-false t (no-zero (entry (t .m) row col) (entry (t .m) col col) w) refl)))) s h
   where
-    no-zero : (x : Float) → eq (x /f at values col) +0 ≡ false
-    no-zero x = ap (λ (y : Float). eq (x /f y) +0) (is-nan (at values col) h) ∙ go x
+    no-zero : (x y : Float) → isNan y ≡ true → eq (x /f y) +0 ≡ false
+    no-zero x y w = ap (λ (y : Float). eq (x /f y) +0) (is-nan y w) ∙ go x
       where
         go : (x : Float) → eq (x /f nan) +0 ≡ false
         go nan = refl
@@ -177,8 +154,7 @@ pub nan-pivot-counts : (n : ℕ) (limit : Float) (col : ℕ) (s : System) → co
     → columnOf n limit col s .updates ≡ s .updates + (n - (col + 1)) * (n - col)
 nan-pivot-counts n limit col s c stands h =
     let p = pivotRowOf n (s .m) col in
-    let up = ap isNan (row-at (swapRows (s .m) col p) col col c) ∙ swap-brings col p (s .m) c (pivot-from n col (s .m)) h in
-    ap (λ (t : System). t .updates) (nan-pivot-goes-on n limit col s stands h) ∙ below-counts n col (matrixRow (swapRows (s .m) col p) col) (swapped s col p) up
+    ap (λ (t : System). t .updates) (nan-pivot-goes-on n limit col s stands h) ∙ below-counts n col (swapped s col p) c (swap-brings col p (s .m) c (pivot-from n col (s .m)) h)
 
 -- where the system stands, place k holds a NaN
 abbrev Marred : ℕ → System → Type 0
@@ -192,7 +168,7 @@ column-brings n limit col s c h = by (s .ok) refl
     by : (b : Bool) → s .ok ≡ b → Marred (col * 6 + col) (columnOf n limit col s)
     by true stands w =
         subst (λ (t : System). NanAt (col * 6 + col) (t .m)) (sym (nan-pivot-goes-on n limit col s stands h))
-        (below-keeps (col * 6 + col) n col (matrixRow (swapRows (s .m) col (pivotRowOf n (s .m) col)) col) (swapped s col (pivotRowOf n (s .m) col)) (omega arith)
+        (below-keeps (col * 6 + col) n col (swapped s col (pivotRowOf n (s .m) col)) (omega arith)
         (swap-brings col (pivotRowOf n (s .m) col) (s .m) c (pivot-from n col (s .m)) h))
     by false fallen w = subst (Marred (col * 6 + col)) (if-false (pivoted n limit col (pivotRowOf n (s .m) col) s) fallen refl) (λ w. false-true (sym fallen ∙ w)) w
 
@@ -202,7 +178,7 @@ unfolding columnOf pivoted
 column-keeps k n limit col s p h =
     cond-test (Marred k) (s .ok)
     (λ stands. cond-ind (Marred k) (le (absOf (pivotOf n (s .m) col)) limit) (λ w. false-true w)
-    (λ w. below-keeps k n col (matrixRow (swapRows (s .m) col (pivotRowOf n (s .m) col)) col) (swapped s col (pivotRowOf n (s .m) col)) (omega arith)
+    (λ w. below-keeps k n col (swapped s col (pivotRowOf n (s .m) col)) (omega arith)
     (swap-keeps k col (pivotRowOf n (s .m) col) (s .m) p (omega (arith, pivot-from n col (s .m))) (h stands))))
     (λ fallen. h)
 

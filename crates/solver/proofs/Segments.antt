@@ -1,4 +1,4 @@
--- Loops that rewrite or exchange segments of a list, place by place; two loops in step at a distance; turns that do nothing. Assumes nothing.
+-- Loops that rewrite or exchange segments of a list, place by place; what a loop keeps; two loops in step, at a distance too; turns that do nothing. Assumes nothing.
 use mathlib.Core.Path.{_≡_, refl, sym, ap, _∙_}
 use mathlib.Core.Bool.{Bool, true, false}
 use mathlib.Core.List.{List}
@@ -12,7 +12,7 @@ use lib.Ieee.{Float, nan}
 use borrow.Author.Tests.{eqb-true, eqb-false}
 use Rattle.laws.specs.Loop.{turns, for}
 use Rattle.laws.specs.Floats.{at}
-use Rattle.laws.proofs.Loops.{turns-ind}
+use Rattle.laws.proofs.Loops.{turns-ind, for-turns}
 use Rattle.solver.specs.Solve.{exchange}
 
 -- two numbers are equal or they are not
@@ -106,6 +106,24 @@ module _ (A B a b : ℕ) (l₀ : List Float) (ab : a ≤ b) (roomA : A + b ≤ l
       (λ j l q r. (omega (arith, r .0), exchange-step j l (r .0) q (r .1))) (b - a) a l₀ (omega arith)
       (omega arith, record { size = refl; first = λ j c d. absurd (omega arith); second = λ j c d. absurd (omega arith); outside = λ k h g. refl })
       .1
+
+-- ---- what a loop keeps
+
+-- what each turn of a loop over a..b keeps, the loop keeps
+pub loop-keeps : {S : Type 0} (P : S → Type 0) (g : ℕ → S → S) (a b : ℕ) → ((i : ℕ) → a ≤ i → i < b → (s : S) → P s → P (g i s)) → (s : S) → P s → P (for a b g s)
+loop-keeps {S} P g a b keeps s p = for-turns g (λ (k : ℕ) (t : S). P t) a b (λ k t l w. keeps (a + k) (omega arith) l t w) s p
+
+-- loops whose turns agree on what the one keeps agree
+module _ {S : Type 0} (P : S → Type 0) (f g : ℕ → S → S) (a b : ℕ) (keeps : (i : ℕ) → a ≤ i → i < b → (s : S) → P s → P (g i s))
+    (same : (i : ℕ) → a ≤ i → i < b → (s : S) → P s → f i s ≡ g i s) where
+  turns-agree : (k i : ℕ) (s : S) → a ≤ i → k ≤ b - i → P s → turns f k i s ≡ turns g k i s
+  unfolding turns
+  turns-agree zero i s l r p = refl
+  turns-agree (suc k) i s l r p =
+      ap (turns f k (i + 1)) (same i l (omega arith) s p) ∙ turns-agree k (i + 1) (g i s) (omega arith) (omega arith) (keeps i l (omega arith) s p)
+
+  pub loop-agrees : (s : S) → P s → for a b f s ≡ for a b g s
+  loop-agrees s p = turns-agree (b - a) a s (omega arith) (omega arith) p
 
 -- ---- two loops in step
 

@@ -2,7 +2,7 @@
 use mathlib.Core.Path.{_≡_, refl}
 use mathlib.Core.Bool.{_&&_}
 use mathlib.Core.List.{List}
-use Prim.Native.Nat.{ℕ, zero, suc, _+_, _-_, _*_, _≤_, _<_}
+use Prim.Native.Nat.{ℕ, _+_, _-_, _*_, _≤_, _<_}
 use native.Mathlib.Omega.{arith}
 use lib.Dec.{ltb, leb}
 use lib.Ieee.{Float, le, eq}
@@ -12,8 +12,9 @@ use Rattle.laws.proofs.Choices.{cond-ind, cond-test}
 use Rattle.laws.proofs.Loops.{for-ind}
 use Rattle.laws.proofs.Sums.{for-most}
 use Rattle.solver.specs.declared.Solved.{Solved}
-use Rattle.solver.specs.Solve.{System, standing, entry, swapRows, swapped, matrixRow, factorOf, rowDone, belowOf, pivotRowOf, pivoted, columnOf, eliminatedOf, scaleOf, underOf, solvedAtScale, solveOf}
+use Rattle.solver.specs.Solve.{System, standing, entry, swapped, factorOf, rowDone, belowOf, pivotRowOf, pivoted, columnOf, eliminatedOf, scaleOf, underOf, solvedAtScale, solveOf}
 use Rattle.solver.proofs.Solutions.{back-updates}
+use Rattle.solver.proofs.Steps.{cubic-more}
 use Rattle.solver.proofs.Whole.{sized}
 
 -- three times the bound
@@ -23,34 +24,24 @@ cubic n = n * (n * n - 1)
 -- ---- one column
 
 -- the rows below: n - col entries in each
-below-most : (n col : ℕ) (values : List Float) (s : System) → belowOf n col values s .updates ≤ s .updates + (n - (col + 1)) * (n - col)
+below-most : (n col : ℕ) (s : System) → belowOf n col s .updates ≤ s .updates + (n - (col + 1)) * (n - col)
 unfolding belowOf rowDone
-below-most n col values s =
-    for-most (λ (t : System). t .updates) (λ row t. rowDone n col values row (factorOf col values row (t .m)) t) (col + 1) n (n - col)
-    (λ row t l. cond-ind (λ (u : System). u .updates ≤ t .updates + (n - col)) (eq (factorOf col values row (t .m)) +0) (omega arith) (omega arith)) s
+below-most n col s =
+    for-most (λ (t : System). t .updates) (λ row t. rowDone n col row (factorOf col row (t .m)) t) (col + 1) n (n - col)
+    (λ row t l. cond-ind (λ (u : System). u .updates ≤ t .updates + (n - col)) (eq (factorOf col row (t .m)) +0) (omega arith) (omega arith)) s
 
 column-most : (n : ℕ) (limit : Float) (col : ℕ) (s : System) → columnOf n limit col s .updates ≤ s .updates + (n - (col + 1)) * (n - col)
 unfolding columnOf pivoted
 column-most n limit col s =
     cond-ind Few (s .ok)
     (cond-ind Few (le (absOf (entry (s .m) (pivotRowOf n (s .m) col) col)) limit) (omega arith)
-    (below-most n col (matrixRow (swapRows (s .m) col (pivotRowOf n (s .m) col)) col) (swapped s col (pivotRowOf n (s .m) col))))
+    (below-most n col (swapped s col (pivotRowOf n (s .m) col))))
     (omega arith)
   where
     Few : System → Type 0
     Few t = t .updates ≤ s .updates + (n - (col + 1)) * (n - col)
 
 -- ---- all columns
-
--- what a column with d of them from it on may take of the bound, and what it leaves to the rest
-share : (d : ℕ) → d < 6 → 3 * (d * (d + 1)) + cubic d ≤ cubic (d + 1)
-share zero l = omega arith
-share (suc zero) l = omega arith
-share (suc (suc zero)) l = omega arith
-share (suc (suc (suc zero))) l = omega arith
-share (suc (suc (suc (suc zero)))) l = omega arith
-share (suc (suc (suc (suc (suc zero))))) l = omega arith
-share (suc (suc (suc (suc (suc (suc d)))))) l = absurd (omega arith)
 
 eliminated-most : (n : ℕ) (limit : Float) (s : System) → n ≤ 6 → s .updates ≡ 0 → 3 * eliminatedOf n limit s .updates ≤ cubic n
 unfolding eliminatedOf
@@ -71,7 +62,7 @@ eliminated-most n limit s six none =
         let e : n - j ≡ d + 1 = omega arith in
         let q : columnOf n limit j t .updates ≤ t .updates + d * (d + 1) = rw e at (column-most n limit j t) in
         let r : 3 * t .updates + cubic (d + 1) ≤ cubic n = rw e at p in
-        let z = share d (omega arith) in
+        let z = cubic-more d in
         omega (arith, q, r, z)
 
 -- ---- every answer

@@ -68,33 +68,29 @@ swapped s a b = after (s .ok) (swapRows (s .m) a b) (exchange (s .rhs) a b) (s .
 
 -- ---- the elimination
 
--- a copy of row i: `pivot_values`
-abbrev pub matrixRow : List Float → ℕ → List Float
-matrixRow m i = for 0 6 (λ j p. set p j (entry m i j)) (replicate 6 +0)
-
--- from column col on, the row less the factor times the pivot values
-unfoldable pub minusOf : ℕ → ℕ → List Float → ℕ → Float → List Float → List Float
-minusOf n col values row factor m = for col n (λ j m. set m (row * 6 + j) (entry m row j -f factor *f at values j)) m
+-- from column col on, the row less the factor times the pivot's row, which is read where it stands, in row col
+unfoldable pub minusOf : ℕ → ℕ → ℕ → Float → List Float → List Float
+minusOf n col row factor m = for col n (λ j m. set m (row * 6 + j) (entry m row j -f factor *f entry m col j)) m
 
 -- the row's entry over the pivot
-abbrev pub factorOf : ℕ → List Float → ℕ → List Float → Float
-factorOf col values row m = entry m row col /f at values col
+abbrev pub factorOf : ℕ → ℕ → List Float → Float
+factorOf col row m = entry m row col /f entry m col col
 
 -- a row and its right side: the row's entries from column col on are updated. One whose factor is a zero is left as it is
-unfoldable pub rowDone : ℕ → ℕ → List Float → ℕ → Float → System → System
-rowDone n col values row factor s =
+unfoldable pub rowDone : ℕ → ℕ → ℕ → Float → System → System
+rowDone n col row factor s =
     cond (eq factor +0) s
-    (after (s .ok) (minusOf n col values row factor (s .m)) (set (s .rhs) row (at (s .rhs) row -f factor *f at (s .rhs) col)) (s .updates + (n - col)))
+    (after (s .ok) (minusOf n col row factor (s .m)) (set (s .rhs) row (at (s .rhs) row -f factor *f at (s .rhs) col)) (s .updates + (n - col)))
 
--- the rows below col
-unfoldable pub belowOf : ℕ → ℕ → List Float → System → System
-belowOf n col values s = for (col + 1) n (λ row s. rowDone n col values row (factorOf col values row (s .m)) s) s
+-- the rows below col. None of them is row col, so that the Rust's copy of it is not needed: proofs/NoCopy
+unfoldable pub belowOf : ℕ → ℕ → System → System
+belowOf n col s = for (col + 1) n (λ row s. rowDone n col row (factorOf col row (s .m)) s) s
 
 -- a pivot, in row p, of at most the limit refuses; a NaN is not at most anything, so it passes
 unfoldable pub pivoted : ℕ → Float → ℕ → ℕ → System → System
 pivoted n limit col p s =
     cond (le (absOf (entry (s .m) p col)) limit) (after false (s .m) (s .rhs) (s .updates))
-    (belowOf n col (matrixRow (swapRows (s .m) col p) col) (swapped s col p))
+    (belowOf n col (swapped s col p))
 
 -- one column; a refused system is passed on
 unfoldable pub columnOf : ℕ → Float → ℕ → System → System
