@@ -15,13 +15,13 @@ use Rattle.outcome.specs.declared.Outcome.{Outcome}
 use Rattle.outcome.specs.Outcome.{fileOutcome, settingsOf, residualsFor, cappedFor}
 use Rattle.outcome.proofs.Fits.{residuals-long, capped-short, file-counts}
 use Rattle.text.specs.Lines.{readLine}
-use Rattle.text.specs.Place.{placed}
+use Rattle.text.specs.Place.{placed, longest}
 use Rattle.text.specs.Answers.{malformedText, refusedText, acceptedText}
 use Rattle.text.proofs.Answering.{accepted-full}
 use Rattle.run.specs.Answer.{restText, behindRead, answerOf}
 
 -- a text: its length, where it is placed, and that it is not long
-pub said : {r : ℕ} {o′ : List ℕ} (o t u : List ℕ) (n : ℕ) → n ≤ 32768 → t ≡ u → (r ≡ length t) × ((o′ ≡ placed t o) × (r ≤ n)) → (r ≡ length u) × ((o′ ≡ placed u o) × (r ≤ 32768))
+pub said : {r : ℕ} {o′ : List ℕ} (o t u : List ℕ) (n : ℕ) → n ≤ longest → t ≡ u → (r ≡ length t) × ((o′ ≡ placed t o) × (r ≤ n)) → (r ≡ length u) × ((o′ ≡ placed u o) × (r ≤ longest))
 said o t u n l e h = (h .0 ∙ ap length e, (h .1 .0 ∙ ap (λ (x : List ℕ). placed x o) e, omega (arith, l, h .1 .1)))
 
 module _ (s : List ℕ) (o : Outcome) (e : o ≡ fileOutcome s 1024 256) where

@@ -2,13 +2,13 @@
 ghost use mathlib.Core.Path.{_≡_};
 ghost use Prim.Native.Nat.{_≤_};
 ghost use lib.ListN.{length};
-ghost use Rattle.text.specs.Place.{placed};
+ghost use Rattle.text.specs.Place.{placed, longest};
 ghost use Rattle.run.specs.Answer.{answerOf};
 
 pub fn run(file: &[u8], out: &mut [u8]) -> usize
     ensures { λ r. ⌜ r ≡ length (answerOf (now (file .entry))) ⌝ }
     ensures { λ r. ⌜ now (out .exit) ≡ placed (answerOf (now (file .entry))) (now (out .entry)) ⌝ }
-    ensures { λ r. ⌜ r ≤ 32768 ⌝ }
+    ensures { λ r. ⌜ r ≤ longest ⌝ }
 {
     let mut residuals = [0.0; 1024];
     let mut capped = [0usize; 256];

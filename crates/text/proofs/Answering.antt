@@ -9,8 +9,8 @@ use lib.Ieee.{Float}
 use borrow.Author.Tests.{eq-eqb, ne-eqb}
 use Rattle.laws.specs.Choice.{unless}
 use Rattle.records.specs.declared.FitAnswer.{FitAnswer}
-use Rattle.text.specs.Lines.{readLine, searchLine, cappedLine, pointLines, refusedLine, refusedFloats}
-use Rattle.text.specs.Answers.{isLate, refusedOf, refusalText, figuresText, acceptedText}
+use Rattle.text.specs.Lines.{searchLine, refusedLine, refusedFloats}
+use Rattle.text.specs.Answers.{isLate, refusedOf, refusalText, fullText, acceptedText}
 
 module _ (a : FitAnswer) where
   pub refused-nine : a .number ≡ 9 → refusedOf a ≡ refusedFloats (a .«rmse_vol») (a .«max_rmse_vol»)
@@ -30,13 +30,10 @@ module _ (a : FitAnswer) where
   refusal-late e = ap (λ (b : Bool). cond b (searchLine (a .counts)) [] ++ refusedOf a) e
 
 module _ (read kept : ℕ) (a : FitAnswer) (residuals : List Float) (capped : List ℕ) where
-  abbrev pub full : List ℕ
-  full = readLine read kept ++ (figuresText a ++ (cappedLine capped ++ pointLines residuals))
-
   pub too-many : (leb (length residuals) 1024 && leb (length capped) 256) ≡ false → acceptedText read kept a residuals capped ≡ []
   unfolding acceptedText
-  too-many e = ap (λ (b : Bool). unless b [] full) e
+  too-many e = ap (λ (b : Bool). unless b [] (fullText read kept a residuals capped)) e
 
-  pub accepted-full : (leb (length residuals) 1024 && leb (length capped) 256) ≡ true → acceptedText read kept a residuals capped ≡ full
+  pub accepted-full : (leb (length residuals) 1024 && leb (length capped) 256) ≡ true → acceptedText read kept a residuals capped ≡ fullText read kept a residuals capped
   unfolding acceptedText
-  accepted-full e = ap (λ (b : Bool). unless b [] full) e
+  accepted-full e = ap (λ (b : Bool). unless b [] (fullText read kept a residuals capped)) e

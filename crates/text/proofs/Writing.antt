@@ -1,49 +1,54 @@
 -- Laws of writing: one text after another, digits, and lists of values as they are written. Assumes nothing.
 use Prim.Native.Nat.{ℕ, zero, suc, _+_, _-_, _/_, _%_, _≤_, _<_}
-use mathlib.Core.Path.{_≡_, refl, sym, ap, subst, _∙_}
+use mathlib.Core.Path.{_≡_, refl, sym, ap, ap₂, _∙_}
 use mathlib.Core.Bool.{Bool, true, false, cond}
 use mathlib.Core.List.{List, [], _∷_, _++_, append-assoc, append-nil}
 use native.Mathlib.Omega.{arith}
-use native.Mathlib.Nat.{le-refl, mod-lt, zero-add, sub-zero}
+use native.Mathlib.Nat.{mod-lt, zero-add, add-zero, sub-zero}
 use native.Mathlib.Numerals.{add-one, sub-one}
-use lib.ListN.{length, take, drop, set, getD, replicate, length-replicate, length-append, length-drop, take-append-drop}
-use lib.Seq.{set-split, take-suc, take-at, drop-at, length-take-le, drop-drop, take-all}
+use lib.ListN.{length, take, drop, set, getD, length-append, length-set}
+use lib.Seq.{set-out, set-append-seam, take-suc, take-all}
 use Rattle.laws.specs.Loop.{turns, for}
 use Rattle.laws.proofs.Loops.{turns-last}
-use lib.Dec.{ltb}
-use borrow.Author.Tests.{lt-ltb, le-ltb, le-leb, lt-leb}
+use lib.Dec.{ltb, leb}
+use borrow.Author.Tests.{lt-ltb, le-ltb, le-leb, leb-true}
 use Rattle.text.specs.Digits.{glyphOf, digitsOf, each}
 use Rattle.laws.proofs.Choices.{if-true, if-false}
-use Rattle.text.specs.Place.{Wrote, placed}
+use Rattle.text.specs.Place.{Wrote, onto, placed}
 
 -- nothing written
-pub wrote-none : (l : List ℕ) (at : ℕ) → at ≤ length l → Wrote l l at at []
-wrote-none l at h = record { holds = sym (take-append-drop at l); next = omega arith; room = h }
+pub wrote-none : (l : List ℕ) (at : ℕ) → Wrote l l at at []
+unfolding onto
+wrote-none l at = record { holds = refl; next = omega arith }
 
--- one byte written
-pub wrote-one : (l : List ℕ) (at b : ℕ) → at < length l → Wrote l (set l at b) at (at + 1) (b ∷ [])
-wrote-one l at b h = record { holds = set-split l at b h ∙ rw add-one; next = refl; room = omega arith }
+-- one byte, where the room has its place, and where it has not
+pub wrote-one : (l : List ℕ) (at b : ℕ) → Wrote l (set l at b) at (at + 1) (b ∷ [])
+unfolding onto
+wrote-one l at b = record { holds = refl; next = refl }
+
+pub wrote-beyond : (l : List ℕ) (at b : ℕ) → length l ≤ at → Wrote l l at (at + 1) (b ∷ [])
+unfolding onto
+wrote-beyond l at b h = record { holds = sym (set-out l at b h); next = refl }
+
+onto-long : (t : List ℕ) (at : ℕ) (l : List ℕ) → length (onto t at l) ≡ length l
+unfolding onto
+onto-long [] at l = refl
+onto-long (b ∷ t) at l = onto-long t (at + 1) (set l at b) ∙ length-set l at b
 
 pub wrote-long : {l l′ : List ℕ} {at at′ : ℕ} {t : List ℕ} → Wrote l l′ at at′ t → length l′ ≡ length l
-wrote-long {l} {l′} {at} {at′} {t} w =
-    let h : at ≤ length l = omega arith in
-    ap length (w .holds) ∙ simp (length-append, length-take-le at l h, length-drop) (omega arith)
+wrote-long {l} {l′} {at} {at′} {t} w = ap length (w .holds) ∙ onto-long t at l
 
 -- one text after another
+onto-append : (t u : List ℕ) (at : ℕ) (l : List ℕ) → onto u (at + length t) (onto t at l) ≡ onto (t ++ u) at l
+unfolding onto
+onto-append [] u at l = ap (λ (n : ℕ). onto u n l) (add-zero at)
+onto-append (b ∷ t) u at l =
+    let e : at + length (b ∷ t) ≡ at + 1 + length t = omega arith in
+    ap (λ (n : ℕ). onto u n (onto t (at + 1) (set l at b))) e ∙ onto-append t u (at + 1) (set l at b)
+
 pub then : {l l₁ l₂ : List ℕ} {at at₁ at₂ : ℕ} {t u : List ℕ} → Wrote l l₁ at at₁ t → Wrote l₁ l₂ at₁ at₂ u → Wrote l l₂ at at₂ (t ++ u)
-then {l} {l₁} {l₂} {at} {at₁} {at₂} {t} {u} a b =
-    let h : at ≤ length l = omega arith in
-    let p : List ℕ = take at l ++ t in
-    let long : length p ≡ at₁ = simp (length-append, length-take-le at l h) (omega arith) in
-    let e : l₁ ≡ p ++ drop at₁ l = a .holds ∙ sym (append-assoc (take at l) t (drop at₁ l)) in
-    let front : take at₁ l₁ ≡ p = ap (take at₁) e ∙ take-at p (drop at₁ l) at₁ long in
-    let rest : drop at₁ l₁ ≡ drop at₁ l = ap (drop at₁) e ∙ drop-at p (drop at₁ l) at₁ long in
-    let back : drop at₂ l₁ ≡ drop at₂ l = rw (b .next) (sym (drop-drop (length u) at₁ l₁) ∙ ap (drop (length u)) rest ∙ drop-drop (length u) at₁ l) in
-    record {
-      holds = b .holds ∙ rw (front, back) (simp append-assoc);
-      next = rw length-append (omega arith);
-      room = omega (arith, wrote-long a);
-    }
+then {l} {at = at} {t = t} {u = u} a b =
+    record { holds = b .holds ∙ ap₂ (onto u) (a .next) (a .holds) ∙ onto-append t u at l; next = rw length-append (omega (arith, a .next, b .next)) }
 
 -- ---- digits
 
@@ -78,27 +83,6 @@ text-more l l₁ l₂ at at₁ at₂ t j h a b = rw (add-one j, take-suc t j 0 h
 
 pub text-done : {l l′ : List ℕ} {at at′ : ℕ} (t : List ℕ) (j : ℕ) → length t ≤ j → Wrote l l′ at at′ (take j t) → Wrote l l′ at at′ t
 text-done t j h w = rw (take-all j t h) at w
-
--- a blank page: its length, and room on it, without counting it out
-abbrev pub blank : ℕ → List ℕ
-blank n = replicate n 0
-
-pub page-long : (n : ℕ) → n ≡ length (blank n)
-page-long n = sym (length-replicate {A = ℕ} n 0)
-
-pub page-room : (n k : ℕ) → k ≤ n → k ≤ length (blank n)
-page-room n k h = subst (λ (m : ℕ). k ≤ m) (page-long n) h
-
-pub page-within : (n : ℕ) → length (blank n) ≤ n
-page-within n = subst (λ (m : ℕ). m ≤ n) (page-long n) (le-refl n)
-
--- what was written ends within the list
-pub wrote-within : {l l′ : List ℕ} {at at′ : ℕ} {t : List ℕ} → Wrote l l′ at at′ t → at′ ≤ length l′
-wrote-within {at′ = at′} w = subst (λ (m : ℕ). at′ ≤ m) (sym (wrote-long w)) (w .room)
-
--- b more after a place p that is at most a
-pub more-fits : (l : List ℕ) (p a b n : ℕ) → length l ≡ n → p ≤ a → a + b ≤ n → p + b ≤ length l
-more-fits l p a b n e h k = omega arith
 
 -- where the text is another's
 pub wrote-as : {l l′ : List ℕ} {at at′ : ℕ} {t u : List ℕ} → u ≡ t → Wrote l l′ at at′ t → Wrote l l′ at at′ u
@@ -144,25 +128,29 @@ module _ (f : ℕ → List ℕ) where
 
 -- ---- a whole text
 
--- what was written from the start stands in front
-wrote-front : {l l′ : List ℕ} {r : ℕ} {t : List ℕ} → Wrote l l′ 0 r t → take r l′ ≡ t
-wrote-front {l} {l′} {r} {t} w = ap (take r) (w .holds) ∙ take-at t (drop r l) r (sym (w .next ∙ zero-add (length t)))
+-- a text from a place on, behind what stands in front of it
+onto-front : (t p l : List ℕ) (at : ℕ) → at ≡ length p → length t ≤ length l → onto t at (p ++ l) ≡ p ++ (t ++ drop (length t) l)
+unfolding onto
+onto-front [] p l at e h = refl
+onto-front (b ∷ t) p [] at e h = absurd (omega arith)
+onto-front (b ∷ t) p (x ∷ l) at e h =
+    let k : at + 1 ≡ length (p ++ (b ∷ [])) = rw length-append (omega arith) in
+    ap (onto t (at + 1)) (ap (λ (n : ℕ). set (p ++ (x ∷ l)) n b) e ∙ set-append-seam p x l b ∙ sym (append-assoc p (b ∷ []) l))
+    ∙ onto-front t (p ++ (b ∷ [])) l (at + 1) k (omega arith) ∙ append-assoc p (b ∷ []) (t ++ drop (length t) l)
 
-pub front-long : {l l′ : List ℕ} {r : ℕ} {t : List ℕ} → Wrote l l′ 0 r t → r ≡ length (take r l′)
-front-long {t = t} w = w .next ∙ zero-add (length t) ∙ sym (ap length (wrote-front w))
+module _ {n n′ t : List ℕ} {size : ℕ} (m : Wrote n n′ 0 size t) where
+  long : size ≡ length t
+  long = m .next ∙ zero-add (length t)
 
--- room for a text, and none
-pub whole : {l l′ : List ℕ} {r : ℕ} {t : List ℕ} → length t ≤ length l → Wrote l l′ 0 r t → (r ≡ length t) × (l′ ≡ placed t l)
-whole {l} {l′} {r} {t} h w =
-    let e : r ≡ length t = w .next ∙ zero-add (length t) in
-    (e, if-true _ (le-leb (length t) (length l) h) (w .holds ∙ ap (λ (n : ℕ). t ++ drop n l) e))
+  -- a text that was measured is written where the room holds it ..
+  pub handed : {l l′ : List ℕ} {r : ℕ} {b : Bool} → b ≡ leb size (length l) → b ≡ true → Wrote l l′ 0 r t → (r ≡ length t) × (l′ ≡ placed t l)
+  handed {l} e h w =
+      let fits : length t ≤ length l = omega (arith, leb-true size (length l) (sym e ∙ h), long) in
+      (w .next ∙ zero-add (length t), if-true _ (le-leb (length t) (length l) fits) (w .holds ∙ onto-front t [] l 0 refl fits))
 
-pub nothing : (l t : List ℕ) → length l < length t → l ≡ placed t l
-nothing l t h = if-false _ (lt-leb (length t) (length l) h) refl
+  -- .. and else the room is as it was
+  pub withheld : (l : List ℕ) {b : Bool} → b ≡ leb size (length l) → b ≡ false → (size ≡ length t) × (l ≡ placed t l)
+  withheld l e h = (long, if-false _ (ap (λ (k : ℕ). leb k (length l)) (sym long) ∙ sym e ∙ h) refl)
 
 pub empty : (o t : List ℕ) (size : ℕ) → t ≡ [] → (0 ≡ length t) × ((o ≡ placed t o) × (0 ≤ size))
 empty o t size e = (sym (ap length e), (sym (ap (λ (x : List ℕ). placed x o) e ∙ sym (if-true o (le-leb 0 (length o) (omega arith)) refl)), omega arith))
-
--- a text was written on a page, and the page's front was handed over
-pub handed : {l l′ t : List ℕ} {n : ℕ} {r : ℕ} (o o′ : List ℕ) (size : ℕ) → length l ≤ size → Wrote l l′ 0 n t → r ≡ length (take n l′) → o′ ≡ placed (take n l′) o → (r ≡ length t) × ((o′ ≡ placed t o) × (r ≤ size))
-handed o o′ size h w e f = (e ∙ ap length (wrote-front w), (f ∙ ap (λ (x : List ℕ). placed x o) (wrote-front w), omega (arith, w .room, front-long w)))

@@ -33,8 +33,10 @@ refusedText read kept a = readLine read kept ++ refusalText a
 unfoldable pub figuresText : FitAnswer → List ℕ
 figuresText a = fitLine (a .slice) ++ (searchLine (a .counts) ++ (marginsLine a ++ activeLine (a .active)))
 
--- .. then the capped positions and a line for each four residual numbers, at most 256 of either
+-- .. then the capped positions and a line for each four residual numbers ..
+abbrev pub fullText : ℕ → ℕ → FitAnswer → List Float → List ℕ → List ℕ
+fullText read kept a residuals capped = readLine read kept ++ (figuresText a ++ (cappedLine capped ++ pointLines residuals))
+
+-- .. of which there are at most 256 each
 unfoldable pub acceptedText : ℕ → ℕ → FitAnswer → List Float → List ℕ → List ℕ
-acceptedText read kept a residuals capped =
-    unless (leb (length residuals) 1024 && leb (length capped) 256) []
-    (readLine read kept ++ (figuresText a ++ (cappedLine capped ++ pointLines residuals)))
+acceptedText read kept a residuals capped = unless (leb (length residuals) 1024 && leb (length capped) 256) [] (fullText read kept a residuals capped)

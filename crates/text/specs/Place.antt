@@ -1,9 +1,9 @@
 -- What it means to write text into a lent buffer. Definitions only.
-use Prim.Native.Nat.{ℕ, _+_, _≤_}
+use Prim.Native.Nat.{ℕ, _+_}
 use mathlib.Core.Path.{_≡_}
-use mathlib.Core.List.{List, _++_}
+use mathlib.Core.List.{List, [], _∷_}
 use lib.Dec.{leb}
-use lib.ListN.{length, take, drop}
+use lib.ListN.{length, set}
 use Rattle.laws.specs.Choice.{unless}
 use Rattle.laws.specs.Room.{atFront}
 
@@ -11,8 +11,16 @@ use Rattle.laws.specs.Room.{atFront}
 abbrev pub placed : List ℕ → List ℕ → List ℕ
 placed text before = unless (leb (length text) (length before)) before (atFront text before)
 
--- inside: text t was written at a place; the buffer held l and holds l′, and the next place is at′
+-- a text is written from a place on; what lies beyond the end of the room is left out
+unfoldable pub onto : List ℕ → ℕ → List ℕ → List ℕ
+onto [] at before = before
+onto (b ∷ text) at before = onto text (at + 1) (set before at b)
+
+-- inside: text t was written from a place on; the buffer held l and holds l′, and the next place is at′
 pub record Wrote (l l′ : List ℕ) (at at′ : ℕ) (t : List ℕ) : Type 0 where
-  pub holds : l′ ≡ take at l ++ (t ++ drop at′ l)
+  pub holds : l′ ≡ onto t at l
   pub next : at′ ≡ at + length t
-  pub room : at′ ≤ length l
+
+-- no answer is longer
+abbrev pub longest : ℕ
+longest = 24768

@@ -1,17 +1,20 @@
-// Bytes, numbers and lists of numbers into a lent buffer. Each function writes at a place, for which its caller has made room, and answers the next place.
+// Bytes, numbers and lists of numbers into a lent buffer. Each function writes from a place on, as far as the buffer goes, and answers the next place.
 ghost use mathlib.Core.Path.{_≡_};
 ghost use mathlib.Core.Bool.{cond};
 ghost use Prim.Native.Nat.{_+_, _*_, _<_, _≤_};
 ghost use mathlib.Core.List.{[], _∷_};
 ghost use lib.ListN.{length};
 ghost use Rattle.text.specs.Digits.{glyphOf, digitsOf, decimalOf, hexOf, floatsOf, countsOf, marksOf};
-ghost use Rattle.text.specs.Place.{Wrote};
+ghost use Rattle.text.specs.Place.{Wrote, longest};
 
+// A byte that lies beyond the buffer's end is not written, and counts all the same: a text is measured on a buffer of any length, and then written with the same code.
 fn put(out: &mut [u8], at: usize, b: u8) -> usize
-    requires { ⌜ at < length (now out) ⌝ }
+    requires { ⌜ at < longest ⌝ }
     ensures { λ r. ⌜ Wrote (now (out .entry)) (now (out .exit)) at r (b ∷ []) ⌝ }
 {
-    out[at] = b;
+    if at < out.len() {
+        out[at] = b;
+    }
     at + 1
 }
 
@@ -24,7 +27,7 @@ fn glyph(d: u64) -> u8
 
 // The digits in front of the last are written first, so it calls itself.
 fn digits(out: &mut [u8], at: usize, n: u64, base: u64, stop: u64, f: usize) -> usize
-    requires { ⌜ (0 < base) × (base ≤ 16) × (at + f ≤ length (now out)) ⌝ }
+    requires { ⌜ (0 < base) × (base ≤ 16) × (at + f ≤ longest) ⌝ }
     ensures { λ r. ⌜ Wrote (now (out .entry)) (now (out .exit)) at r (digitsOf base stop f n) ⌝ }
 {
     if f == 0 {
@@ -39,7 +42,7 @@ fn digits(out: &mut [u8], at: usize, n: u64, base: u64, stop: u64, f: usize) -> 
 }
 
 pub(crate) fn put_text(out: &mut [u8], at: usize, text: &[u8]) -> usize
-    requires { ⌜ at + length (now text) ≤ length (now out) ⌝ }
+    requires { ⌜ at + length (now text) ≤ longest ⌝ }
     ensures { λ r. ⌜ Wrote (now (out .entry)) (now (out .exit)) at r (now (text .entry)) ⌝ }
 {
     let mut p = at;
@@ -52,7 +55,7 @@ pub(crate) fn put_text(out: &mut [u8], at: usize, text: &[u8]) -> usize
 }
 
 fn decimal(out: &mut [u8], at: usize, n: u64) -> usize
-    requires { ⌜ at + 20 ≤ length (now out) ⌝ }
+    requires { ⌜ at + 20 ≤ longest ⌝ }
     ensures { λ r. ⌜ Wrote (now (out .entry)) (now (out .exit)) at r (decimalOf n) ⌝ }
     ensures { λ r. ⌜ r ≤ at + 20 ⌝ }
 {
@@ -60,7 +63,7 @@ fn decimal(out: &mut [u8], at: usize, n: u64) -> usize
 }
 
 fn hex(out: &mut [u8], at: usize, n: u64) -> usize
-    requires { ⌜ at + 16 ≤ length (now out) ⌝ }
+    requires { ⌜ at + 16 ≤ longest ⌝ }
     ensures { λ r. ⌜ Wrote (now (out .entry)) (now (out .exit)) at r (hexOf n) ⌝ }
     ensures { λ r. ⌜ r ≤ at + 16 ⌝ }
 {
@@ -69,7 +72,7 @@ fn hex(out: &mut [u8], at: usize, n: u64) -> usize
 
 // A space and sixteen digits for each float.
 pub(crate) fn floats(out: &mut [u8], at: usize, xs: &[f64]) -> usize
-    requires { ⌜ at + 17 * length (now xs) ≤ length (now out) ⌝ }
+    requires { ⌜ at + 17 * length (now xs) ≤ longest ⌝ }
     ensures { λ r. ⌜ Wrote (now (out .entry)) (now (out .exit)) at r (floatsOf (now (xs .entry))) ⌝ }
     ensures { λ r. ⌜ r ≤ at + 17 * length (now (xs .entry)) ⌝ }
 {
@@ -85,7 +88,7 @@ pub(crate) fn floats(out: &mut [u8], at: usize, xs: &[f64]) -> usize
 
 // A space and decimal digits for each count.
 pub(crate) fn counts(out: &mut [u8], at: usize, ns: &[usize]) -> usize
-    requires { ⌜ at + 21 * length (now ns) ≤ length (now out) ⌝ }
+    requires { ⌜ at + 21 * length (now ns) ≤ longest ⌝ }
     ensures { λ r. ⌜ Wrote (now (out .entry)) (now (out .exit)) at r (countsOf (now (ns .entry))) ⌝ }
     ensures { λ r. ⌜ r ≤ at + 21 * length (now (ns .entry)) ⌝ }
 {
@@ -107,7 +110,7 @@ fn mark(b: bool) -> u8
 
 // One digit for each of the seven marks.
 pub(crate) fn marks(out: &mut [u8], at: usize, active: [bool; 7]) -> usize
-    requires { ⌜ at + 7 ≤ length (now out) ⌝ }
+    requires { ⌜ at + 7 ≤ longest ⌝ }
     ensures { λ r. ⌜ Wrote (now (out .entry)) (now (out .exit)) at r (marksOf active) ⌝ }
     ensures { λ r. ⌜ r ≤ at + 7 ⌝ }
 {

@@ -1,4 +1,5 @@
 // The answers of the fit program as text, each for every input: a text is written whole at the front of the room where the room holds it, else nothing is, and how long it is comes back.
+// It is never held in whole: it is measured first, on one byte, and then written where it is to stand.
 use records::FitAnswer;
 
 mod digits; // digits.rt: bytes and numbers
@@ -10,18 +11,14 @@ ghost use mathlib.Core.Bool.{_&&_};
 ghost use Prim.Native.Nat.{_≤_};
 ghost use lib.Dec.{leb};
 ghost use lib.ListN.{length};
-ghost use Rattle.text.specs.Place.{placed};
+ghost use Rattle.text.specs.Place.{placed, longest};
 ghost use Rattle.text.specs.Answers.{malformedText, refusedText, acceptedText};
 
-// Hands a text over.
-fn give(text: &[u8], out: &mut [u8]) -> usize
-    ensures { λ r. ⌜ r ≡ length (now (text .entry)) ⌝ }
-    ensures { λ r. ⌜ now (out .exit) ≡ placed (now (text .entry)) (now (out .entry)) ⌝ }
+// Whether a text of so many bytes is handed over.
+fn holds(room: usize, size: usize) -> bool
+    ensures { λ r. ⌜ r ≡ leb size room ⌝ }
 {
-    if out.len() < text.len() {
-        return text.len();
-    }
-    digits::put_text(out, 0, text)
+    size <= room
 }
 
 // The answer to a malformed file.
@@ -30,9 +27,12 @@ pub fn malformed(out: &mut [u8]) -> usize
     ensures { λ r. ⌜ now (out .exit) ≡ placed malformedText (now (out .entry)) ⌝ }
     ensures { λ r. ⌜ r ≤ 128 ⌝ }
 {
-    let mut page = [0u8; 128];
-    let n = lines::refused_line(&mut page, 0, 43, 0, 0);
-    give(&page[..n], out)
+    let mut none = [0u8; 1];
+    let size = lines::refused_line(&mut none, 0, 43, 0, 0);
+    if holds(out.len(), size) {
+        return lines::refused_line(out, 0, 43, 0, 0);
+    }
+    size
 }
 
 // The answer to any other file that is refused.
@@ -41,10 +41,12 @@ pub fn refused(read: usize, kept: usize, a: FitAnswer, out: &mut [u8]) -> usize
     ensures { λ r. ⌜ now (out .exit) ≡ placed (refusedText read kept a) (now (out .entry)) ⌝ }
     ensures { λ r. ⌜ r ≤ 256 ⌝ }
 {
-    let mut page = [0u8; 256];
-    let p = lines::read_line(&mut page, 0, read, kept);
-    let n = answers::refusal(&mut page, p, a);
-    give(&page[..n], out)
+    let mut none = [0u8; 1];
+    let size = answers::refused(&mut none, read, kept, a);
+    if holds(out.len(), size) {
+        return answers::refused(out, read, kept, a);
+    }
+    size
 }
 
 // The answer to a file whose fit is accepted. More than 256 points, or capped positions, no answer has: then the text is empty.
@@ -58,17 +60,18 @@ pub fn accepted(
 ) -> usize
     ensures { λ r. ⌜ r ≡ length (acceptedText read kept a (now (residuals .entry)) (now (capped .entry))) ⌝ }
     ensures { λ r. ⌜ now (out .exit) ≡ placed (acceptedText read kept a (now (residuals .entry)) (now (capped .entry))) (now (out .entry)) ⌝ }
-    ensures { λ r. ⌜ r ≤ 32768 ⌝ }
+    ensures { λ r. ⌜ r ≤ longest ⌝ }
 {
-    let size = few(residuals.len(), capped.len());
-    if !size {
+    let sized = few(residuals.len(), capped.len());
+    if !sized {
         return 0;
     }
-    let mut page = [0u8; 32768];
-    let p = lines::read_line(&mut page, 0, read, kept);
-    let q = answers::figures(&mut page, p, a);
-    let n = answers::points(&mut page, q, capped, residuals);
-    give(&page[..n], out)
+    let mut none = [0u8; 1];
+    let size = answers::accepted(&mut none, read, kept, a, residuals, capped);
+    if holds(out.len(), size) {
+        return answers::accepted(out, read, kept, a, residuals, capped);
+    }
+    size
 }
 
 fn few(points: usize, capped: usize) -> bool

@@ -1,4 +1,4 @@
-// The lines of an answer. Each function writes at a place, for which its caller has made room, and answers the next place.
+// The lines of an answer. Each function writes from a place on, as far as the buffer goes, and answers the next place.
 use crate::digits::counts;
 use crate::digits::floats;
 use crate::digits::marks;
@@ -8,11 +8,11 @@ use records::FitAnswer;
 use slice::SviSlice;
 ghost use Prim.Native.Nat.{_+_, _*_, _/_, _<_, _≤_};
 ghost use lib.ListN.{length};
-ghost use Rattle.text.specs.Place.{Wrote};
+ghost use Rattle.text.specs.Place.{Wrote, longest};
 ghost use Rattle.text.specs.Lines.{floatsLine, countsLine, readLine, fitLine, searchLine, marginsLine, activeLine, cappedLine, pointLine, pointLines, refusedLine, refusedFloats};
 
 fn floats_line(out: &mut [u8], at: usize, name: &[u8], xs: &[f64]) -> usize
-    requires { ⌜ at + length (now name) + 17 * length (now xs) + 1 ≤ length (now out) ⌝ }
+    requires { ⌜ at + length (now name) + 17 * length (now xs) + 1 ≤ longest ⌝ }
     ensures { λ r. ⌜ Wrote (now (out .entry)) (now (out .exit)) at r (floatsLine (now (name .entry)) (now (xs .entry))) ⌝ }
     ensures { λ r. ⌜ r ≤ at + length (now (name .entry)) + 17 * length (now (xs .entry)) + 1 ⌝ }
 {
@@ -22,7 +22,7 @@ fn floats_line(out: &mut [u8], at: usize, name: &[u8], xs: &[f64]) -> usize
 }
 
 fn counts_line(out: &mut [u8], at: usize, name: &[u8], ns: &[usize]) -> usize
-    requires { ⌜ at + length (now name) + 21 * length (now ns) + 1 ≤ length (now out) ⌝ }
+    requires { ⌜ at + length (now name) + 21 * length (now ns) + 1 ≤ longest ⌝ }
     ensures { λ r. ⌜ Wrote (now (out .entry)) (now (out .exit)) at r (countsLine (now (name .entry)) (now (ns .entry))) ⌝ }
     ensures { λ r. ⌜ r ≤ at + length (now (name .entry)) + 21 * length (now (ns .entry)) + 1 ⌝ }
 {
@@ -32,7 +32,7 @@ fn counts_line(out: &mut [u8], at: usize, name: &[u8], ns: &[usize]) -> usize
 }
 
 pub(crate) fn read_line(out: &mut [u8], at: usize, read: usize, kept: usize) -> usize
-    requires { ⌜ at + 52 ≤ length (now out) ⌝ }
+    requires { ⌜ at + 52 ≤ longest ⌝ }
     ensures { λ r. ⌜ Wrote (now (out .entry)) (now (out .exit)) at r (readLine read kept) ⌝ }
     ensures { λ r. ⌜ r ≤ at + 52 ⌝ }
 {
@@ -42,7 +42,7 @@ pub(crate) fn read_line(out: &mut [u8], at: usize, read: usize, kept: usize) -> 
 }
 
 pub(crate) fn fit_line(out: &mut [u8], at: usize, s: SviSlice) -> usize
-    requires { ⌜ at + 106 ≤ length (now out) ⌝ }
+    requires { ⌜ at + 106 ≤ longest ⌝ }
     ensures { λ r. ⌜ Wrote (now (out .entry)) (now (out .exit)) at r (fitLine s) ⌝ }
     ensures { λ r. ⌜ r ≤ at + 106 ⌝ }
 {
@@ -51,7 +51,7 @@ pub(crate) fn fit_line(out: &mut [u8], at: usize, s: SviSlice) -> usize
 }
 
 pub(crate) fn search_line(out: &mut [u8], at: usize, n: Counts) -> usize
-    requires { ⌜ at + 133 ≤ length (now out) ⌝ }
+    requires { ⌜ at + 133 ≤ longest ⌝ }
     ensures { λ r. ⌜ Wrote (now (out .entry)) (now (out .exit)) at r (searchLine n) ⌝ }
     ensures { λ r. ⌜ r ≤ at + 133 ⌝ }
 {
@@ -67,7 +67,7 @@ pub(crate) fn search_line(out: &mut [u8], at: usize, n: Counts) -> usize
 }
 
 pub(crate) fn margins_line(out: &mut [u8], at: usize, a: FitAnswer) -> usize
-    requires { ⌜ at + 93 ≤ length (now out) ⌝ }
+    requires { ⌜ at + 93 ≤ longest ⌝ }
     ensures { λ r. ⌜ Wrote (now (out .entry)) (now (out .exit)) at r (marginsLine a) ⌝ }
     ensures { λ r. ⌜ r ≤ at + 93 ⌝ }
 {
@@ -82,7 +82,7 @@ pub(crate) fn margins_line(out: &mut [u8], at: usize, a: FitAnswer) -> usize
 }
 
 pub(crate) fn active_line(out: &mut [u8], at: usize, active: [bool; 7]) -> usize
-    requires { ⌜ at + 15 ≤ length (now out) ⌝ }
+    requires { ⌜ at + 15 ≤ longest ⌝ }
     ensures { λ r. ⌜ Wrote (now (out .entry)) (now (out .exit)) at r (activeLine active) ⌝ }
     ensures { λ r. ⌜ r ≤ at + 15 ⌝ }
 {
@@ -92,7 +92,7 @@ pub(crate) fn active_line(out: &mut [u8], at: usize, active: [bool; 7]) -> usize
 }
 
 pub(crate) fn capped_line(out: &mut [u8], at: usize, capped: &[usize]) -> usize
-    requires { ⌜ at + 28 + 21 * length (now capped) ≤ length (now out) ⌝ }
+    requires { ⌜ at + 28 + 21 * length (now capped) ≤ longest ⌝ }
     ensures { λ r. ⌜ Wrote (now (out .entry)) (now (out .exit)) at r (cappedLine (now (capped .entry))) ⌝ }
     ensures { λ r. ⌜ r ≤ at + 28 + 21 * length (now (capped .entry)) ⌝ }
 {
@@ -104,7 +104,7 @@ pub(crate) fn capped_line(out: &mut [u8], at: usize, capped: &[usize]) -> usize
 
 // The line of the i-th four numbers.
 fn point_line(out: &mut [u8], at: usize, residuals: &[f64], i: usize) -> usize
-    requires { ⌜ (4 * i + 4 ≤ length (now residuals)) × (at + 74 ≤ length (now out)) ⌝ }
+    requires { ⌜ (4 * i + 4 ≤ length (now residuals)) × (at + 74 ≤ longest) ⌝ }
     ensures { λ r. ⌜ Wrote (now (out .entry)) (now (out .exit)) at r (pointLine (now (residuals .entry)) i) ⌝ }
     ensures { λ r. ⌜ r ≤ at + 74 ⌝ }
 {
@@ -113,7 +113,7 @@ fn point_line(out: &mut [u8], at: usize, residuals: &[f64], i: usize) -> usize
 }
 
 pub(crate) fn point_lines(out: &mut [u8], at: usize, residuals: &[f64]) -> usize
-    requires { ⌜ at + 74 * (length (now residuals) / 4) ≤ length (now out) ⌝ }
+    requires { ⌜ at + 74 * (length (now residuals) / 4) ≤ longest ⌝ }
     ensures { λ r. ⌜ Wrote (now (out .entry)) (now (out .exit)) at r (pointLines (now (residuals .entry))) ⌝ }
     ensures { λ r. ⌜ r ≤ at + 74 * (length (now (residuals .entry)) / 4) ⌝ }
 {
@@ -128,7 +128,7 @@ pub(crate) fn point_lines(out: &mut [u8], at: usize, residuals: &[f64]) -> usize
 }
 
 pub(crate) fn refused_line(out: &mut [u8], at: usize, number: u32, x: usize, y: usize) -> usize
-    requires { ⌜ at + 71 ≤ length (now out) ⌝ }
+    requires { ⌜ at + 71 ≤ longest ⌝ }
     ensures { λ r. ⌜ Wrote (now (out .entry)) (now (out .exit)) at r (refusedLine number x y) ⌝ }
     ensures { λ r. ⌜ r ≤ at + 71 ⌝ }
 {
@@ -138,7 +138,7 @@ pub(crate) fn refused_line(out: &mut [u8], at: usize, number: u32, x: usize, y: 
 
 // 9, the one refusal whose values are floats.
 pub(crate) fn refused_floats(out: &mut [u8], at: usize, x: f64, y: f64) -> usize
-    requires { ⌜ at + 63 ≤ length (now out) ⌝ }
+    requires { ⌜ at + 63 ≤ longest ⌝ }
     ensures { λ r. ⌜ Wrote (now (out .entry)) (now (out .exit)) at r (refusedFloats x y) ⌝ }
     ensures { λ r. ⌜ r ≤ at + 63 ⌝ }
 {

@@ -2,7 +2,7 @@
 use Prim.Native.Nat.{_≤_, ℕ}
 use Rattle.records.specs.declared.FitAnswer.{FitAnswer}
 use Rattle.text.specs.Answers.{acceptedText, malformedText, refusedText}
-use Rattle.text.specs.Place.{placed}
+use Rattle.text.specs.Place.{longest, placed}
 use lib.Ieee.{Float}
 use lib.ListN.{length}
 use mathlib.Core.List.{List}
@@ -17,5 +17,5 @@ pub refused : (read : ℕ) (kept : ℕ) (a : FitAnswer) (out : List ℕ) {r₁ r
 refused read kept a out {r₁} {r₂} {out-exit₁} {out-exit₂} h₁ h₂ = (cc, cc)
 
 -- text::accepted
-pub accepted : (read : ℕ) (kept : ℕ) (a : FitAnswer) (residuals : List Float) (capped : List ℕ) (out : List ℕ) {r₁ r₂ : ℕ} {out-exit₁ out-exit₂ : List ℕ} → ((r₁ ≡ length (acceptedText read kept a residuals capped)) × (out-exit₁ ≡ placed (acceptedText read kept a residuals capped) out) × (r₁ ≤ 32768)) → ((r₂ ≡ length (acceptedText read kept a residuals capped)) × (out-exit₂ ≡ placed (acceptedText read kept a residuals capped) out) × (r₂ ≤ 32768)) → (r₁ ≡ r₂) × (out-exit₁ ≡ out-exit₂)
+pub accepted : (read : ℕ) (kept : ℕ) (a : FitAnswer) (residuals : List Float) (capped : List ℕ) (out : List ℕ) {r₁ r₂ : ℕ} {out-exit₁ out-exit₂ : List ℕ} → ((r₁ ≡ length (acceptedText read kept a residuals capped)) × (out-exit₁ ≡ placed (acceptedText read kept a residuals capped) out) × (r₁ ≤ longest)) → ((r₂ ≡ length (acceptedText read kept a residuals capped)) × (out-exit₂ ≡ placed (acceptedText read kept a residuals capped) out) × (r₂ ≤ longest)) → (r₁ ≡ r₂) × (out-exit₁ ≡ out-exit₂)
 accepted read kept a residuals capped out {r₁} {r₂} {out-exit₁} {out-exit₂} h₁ h₂ = (cc, cc)

@@ -3,6 +3,7 @@ use native.Mathlib.Omega.{arith}
 use borrow.Author.Needs.{needs}
 use Rattle.outcome.proofs.Fits.{file-counts}
 use Rattle.outcome.proofs.Fronts.{written-front, written-long}
+use Rattle.text.specs.Place.{longest}
 use Rattle.run.proofs.Saying.{said, says-malformed, says-refused, rows-are, capped-are, capped-few, says-accepted}
 use Rattle.run.proofs.run.Statement.{statement}
 use Rattle.run.proofs.run.Tie as tie
@@ -38,7 +39,7 @@ returns-3 c =
     let o = c .before .before .before .before .before .before .before .before .before .before .before .before .of-file .result in
     let e = c .before .before .before .before .before .before .before .before .before .before .before .before .of-file .ensures .0 in
     let z = c .before .before .before .before .before .before .before .if2 .left in
-    said (c .before .before .before .before .before .before .before .before .before .before .before .before .before .before .before .before .before .args .out .now) _ _ 32768 (omega arith)
+    said (c .before .before .before .before .before .before .before .before .before .before .before .before .before .before .before .before .before .args .out .now) _ _ longest (omega arith)
     (says-accepted s o e z _ _
     (written-front _ _ _ _ (c .before .before .before .before .before .before .before .before .before .before .before .before .of-file .ensures .1 .0) z _ (rows-are s o e z))
     (written-front _ _ _ _ (c .before .before .before .before .before .before .before .before .before .before .before .before .of-file .ensures .1 .1) z _ (capped-are s o e z)))

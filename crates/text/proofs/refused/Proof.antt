@@ -1,27 +1,27 @@
 -- `text::refused` meets its contract. Assumes nothing.
-use native.Mathlib.Omega.{arith}
-use Rattle.text.proofs.Writing.{handed, then, front-long}
-use Rattle.text.specs.Answers.{refusedText}
+use borrow.Author.Needs.{needs}
+use Rattle.text.proofs.Writing.{handed, withheld}
 use Rattle.text.proofs.refused.Statement.{statement}
 use Rattle.text.proofs.refused.Tie as tie
 
-slice-aggregate-give : tie.Need-slice-aggregate-give
-slice-aggregate-give c = front-long (then (c .before .before .before .before .before .read-line .ensures .0) (c .before .before .refusal .ensures))
-
 returns : tie.Need-returns
-unfolding refusedText
-returns c = handed (c .before .before .before .before .before .before .before .before .before .before .before .before .args .out .now) _ 256 (omega arith) (then (c .before .before .before .before .before .before .before .before .before .read-line .ensures .0) (c .before .before .before .before .before .before .refusal .ensures)) (c .before .before .give .ensures .0) (c .before .before .give .ensures .1)
+returns c =
+    let h = handed (c .before .before .before .before .before .before .before .refused .ensures .0) (c .before .before .before .before .before .holds .ensures) (c .before .before .before .before .if1 .taken) (c .before .before .refused2 .ensures .0) in
+    (h .0, (h .1, c .before .before .refused2 .ensures .1))
+
+returns-2 : tie.Need-returns-2
+returns-2 c =
+    let h = withheld (c .before .before .before .refused .ensures .0) (c .before .before .before .before .before .before .args .out .now) (c .before .holds .ensures) (c .if1 .left) in
+    (h .0, (h .1, c .before .before .before .refused .ensures .1))
 
 pub refused-spec : {M : Type 1} → statement M
 refused-spec =
     tie.close
     (tie.spec
-    (λ c. omega arith)
-    (λ c κs. omega arith)
-    (λ c. omega arith)
-    (λ c κs. omega arith)
-    (λ c. omega arith)
-    slice-aggregate-give
-    (λ c κs. tt)
-    (λ c. c .before .out .given)
-    returns)
+    (λ c. search needs)
+    (λ c κs. search needs)
+    (λ c κs. search needs)
+    (λ c κs. search needs)
+    (λ c. search needs)
+    returns
+    returns-2)

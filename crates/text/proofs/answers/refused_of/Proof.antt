@@ -6,10 +6,10 @@ use Rattle.text.proofs.answers.refused_of.Statement.{statement}
 use Rattle.text.proofs.answers.refused_of.Tie as tie
 
 returns : tie.Need-returns
-returns c = wrote-as (refused-nine (c .before .before .before .before .before .before .args .a) (c .before .before .before .before .if1 .taken)) (c .before .before .refused-floats .ensures .0)
+returns c = (wrote-as (refused-nine (c .before .before .before .before .before .before .args .a) (c .before .before .before .before .if1 .taken)) (c .before .before .refused-floats .ensures .0), omega (arith, c .before .before .refused-floats .ensures .1))
 
 returns-2 : tie.Need-returns-2
-returns-2 c = wrote-as (refused-other (c .before .before .before .before .before .before .args .a) (c .before .before .before .before .if1 .left)) (c .before .before .refused-line .ensures .0)
+returns-2 c = (wrote-as (refused-other (c .before .before .before .before .before .before .args .a) (c .before .before .before .before .if1 .left)) (c .before .before .refused-line .ensures .0), c .before .before .refused-line .ensures .1)
 
 pub refused-of-spec : {M : Type 1} → statement M
 refused-of-spec =

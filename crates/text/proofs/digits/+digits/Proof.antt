@@ -30,7 +30,7 @@ digits-returns : (t : ℕ) → digits-lts.Need-returns (
   digits-below t,
   digits.Post,
 ) (digits-at t) digits.Post
-digits-returns t c = wrote-as (digits-none _ _ _ _ (c .if1 .taken)) (wrote-none _ _ (omega arith))
+digits-returns t c = wrote-as (digits-none _ _ _ _ (c .if1 .taken)) (wrote-none _ _)
 
 digits-rem-glyph : (t : ℕ) → digits-lts.Need-rem-glyph (
   glyph-reads.Asked,

@@ -1,12 +1,12 @@
 -- `text::digits::put` meets its contract. Assumes nothing.
 use native.Mathlib.Omega.{arith}
-use lib.ListN.{length-set}
-use Rattle.text.proofs.Writing.{wrote-one}
+use mathlib.Core.Logic.{⊎-elim}
+use Rattle.text.proofs.Writing.{wrote-one, wrote-beyond, wrote-long}
 use Rattle.text.proofs.digits.put.Statement.{statement}
 use Rattle.text.proofs.digits.put.Tie as tie
 
 returns : tie.Need-returns
-returns c = wrote-one _ _ _ (c .pre)
+returns c = ⊎-elim (λ w. rw (w .1) (wrote-one _ _ _)) (λ w. rw (w .1) (wrote-beyond _ _ _ (w .0 .left))) (c .if1 .came)
 
 pub put-spec : {M : Type 1} → statement M
-put-spec = tie.close (tie.spec (λ c. omega arith) (λ c. omega arith) (λ c. length-set (c .args .out .now) (c .args .at) (c .args .b)) returns)
+put-spec = tie.close (tie.spec (λ c. omega arith) (λ c. omega arith) (λ c. wrote-long (returns c)) returns)
