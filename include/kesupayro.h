@@ -2,7 +2,7 @@
  * Link target/staticlib/libport.a, which `rt staticlib port` writes (x86-64 Linux):  cc -I include my.c target/staticlib/libport.a
  *
  * Every call has one answer for every input, NaN and infinities too, and that answer is proved: docs/PROMISES.md. No call allocates,
- * blocks, or keeps a pointer; nothing is kept between calls, so threads need no lock. 256 KiB of stack are enough.
+ * blocks, or keeps a pointer; nothing is kept between calls, so threads need no lock. PORT_STACK bytes of stack are enough.
  *
  * What a caller vouches for, and this is the whole list:
  *   - a pointer with its count points to that many values, which may be read (and written, where it is not const), and may be NULL where the
@@ -33,6 +33,10 @@ extern "C" {
  * A program that was compiled with one header and linked with another library can tell: port_abi() is the library's number. */
 #define PORT_ABI 3
 uint32_t port_abi(void);
+
+/* Bytes of stack that are enough for every call, counted from the caller's frame: what the deepest takes (docs/SPEED.md, 'Stack'), and a margin. The stack of a thread
+ * holds more besides: the frames of the program's own functions, and what the C library puts there, for which PTHREAD_STACK_MIN is enough. */
+#define PORT_STACK 40960
 
 /* What `number` says. */
 enum {

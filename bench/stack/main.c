@@ -1,15 +1,21 @@
-/* The stack that each export takes at its deepest: it is called on a thread whose stack was painted, and what is no longer paint was used.
- * Prints a line for each export: its name and bytes, counted from the caller's frame; what takes fewer than LEAST shows as LEAST. Built and run by bench/run stack. */
+/* The stack of each export, called with what takes it deepest. Built and run by bench/run stack and by bindings/test.
+ *     stack                   a line for each export: its name and the bytes that it takes, counted from the caller's frame, on a stack that was painted: what is no longer
+ *                             paint was used, and what takes fewer than LEAST shows as LEAST
+ *     stack within [BYTES]    each export on a thread with that much stack and no more (PORT_STACK); the last line is 'N passed, M failed'
+ *     stack smile, down       writes a house file with which the program goes deep (bench/stack/program.c) */
 #define _GNU_SOURCE
 #include "kesupayro.h"
 
+#include "small_stack.h"
 #include <math.h>
-#include <pthread.h>
+#include <signal.h>
 #include <stdio.h>
 #include <stdlib.h>
 #include <string.h>
+#include <sys/resource.h>
+#include <sys/wait.h>
 
-enum { STACK = 1 << 20, PAINT = 0xa5, LEAST = 256, MOST = 256, SLICES = 32, AXIS = 64 };
+enum { PAINTED = 1 << 19, PAINT = 0xa5, LEAST = 256, MOST = 256, SLICES = 32, AXIS = 64 };
 
 static double k[MOST], w[MOST], weight[MOST], residuals[4 * MOST], axis_k[AXIS], axis_tau[AXIS], room[3 * AXIS * AXIS];
 static uint64_t capped[MOST];
@@ -189,38 +195,64 @@ static const struct {
     CALL(check_record),   CALL(check_clean), CALL(report_clean), CALL(solve), CALL(cell),        CALL(sqrt),         CALL(hypot),       CALL(ln),           CALL(exp),
 };
 
-static unsigned char *stack;
+enum { CALLS = sizeof calls / sizeof *calls };
+
+static void (*call)(void);
 static size_t used;
 
-/* What a call leaves of the paint, from the frame of this function on. */
-static void *on_thread(void *call)
+/* What the call leaves of the paint, from the frame of this function on. */
+static void painted(void)
 {
-    unsigned char *here = __builtin_frame_address(0);
-    memset(stack, PAINT, (size_t)(here - stack) - LEAST);
-    ((void (*)(void))call)();
-    size_t low = 0;
-    while (stack[low] == PAINT)
+    unsigned char *here = __builtin_frame_address(0), *low = here - PAINTED;
+    memset(low, PAINT, PAINTED - LEAST);
+    call();
+    while (*low == PAINT)
         low++;
-    used = (size_t)(here - (stack + low));
-    return NULL;
+    used = (size_t)(here - low);
 }
 
-static size_t stack_of(void (*call)(void))
+static int print_used(void)
 {
-    pthread_attr_t attr;
-    pthread_t thread;
-    pthread_attr_init(&attr);
-    pthread_attr_setstack(&attr, stack, STACK);
-    if (pthread_create(&thread, &attr, on_thread, (void *)call) || pthread_join(thread, NULL))
-        exit(1);
-    return used;
-}
-
-int main(void)
-{
-    stack = aligned_alloc(1 << 12, STACK);
-    surface();
-    for (size_t i = 0; i < sizeof calls / sizeof *calls; i++)
-        printf("%s %zu\n", calls[i].name, stack_of(calls[i].call));
+    for (size_t i = 0; i < CALLS; i++) {
+        call = calls[i].call;
+        if (with_stack(2 * PAINTED, painted))
+            return 1;
+        printf("%s %zu\n", calls[i].name, used);
+    }
     return 0;
+}
+
+/* Each export in a process of its own, which ends where the stack does. */
+static int within(size_t bytes)
+{
+    const struct rlimit none = {0, 0};
+    int passed = 0, failed = 0;
+    for (size_t i = 0; i < CALLS; i++) {
+        int status = -1;
+        fflush(stdout);
+        pid_t child = fork();
+        if (child == 0) {
+            setrlimit(RLIMIT_CORE, &none);
+            _exit(with_stack(bytes, calls[i].call));
+        }
+        if (child > 0 && waitpid(child, &status, 0) == child && status == 0)
+            passed++;
+        else if (status != -1 && WIFSIGNALED(status) && WTERMSIG(status) == SIGSEGV)
+            failed++, printf("FAILED %s: more than %zu bytes of stack\n", calls[i].name, bytes);
+        else
+            failed++, printf("FAILED %s: not called, status %d\n", calls[i].name, status);
+    }
+    printf("%d passed, %d failed\n", passed, failed);
+    return failed != 0;
+}
+
+int main(int count, char **words)
+{
+    const char *word = count > 1 ? words[1] : "";
+    surface();
+    if (strcmp(word, "within") == 0)
+        return within(count > 2 ? strtoul(words[2], NULL, 10) : PORT_STACK);
+    if (strcmp(word, "smile") == 0 || strcmp(word, "down") == 0)
+        return fwrite(file, house(*word == 'd'), 1, stdout) != 1;
+    return *word ? 2 : print_used();
 }

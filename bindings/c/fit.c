@@ -1,7 +1,9 @@
 /* The fit from C: layouts, what each call answers to good and to bad input, buffers that stay as they were, a small stack.
  * Its last line is 'N passed, M failed'. */
+#define _DEFAULT_SOURCE
 #include "kesupayro.h"
 
+#include "expect.h"
 #include "small_stack.h"
 #include <math.h>
 #include <string.h>
@@ -367,7 +369,7 @@ static void house_file(void)
     EXPECT(port_run(file, sizeof file, out, sizeof out) == sizeof clashing - 1 && memcmp(out, clashing, sizeof clashing - 1) == 0);
 }
 
-static void *all(void *nothing)
+static void all(void)
 {
     elementary();
     defaults();
@@ -377,12 +379,13 @@ static void *all(void *nothing)
     second_quotes();
     clashes();
     house_file();
-    return nothing;
 }
 
 int main(void)
 {
     layouts();
     EXPECT(port_abi() == PORT_ABI);
-    return with_256_kib(all);
+    EXPECT(with_stack(PORT_STACK + TESTS_OWN, all) == 0);
+    printf("%d passed, %d failed\n", passed, failed);
+    return failed != 0;
 }

@@ -1,6 +1,8 @@
 /* Slices, points, surfaces and diagnostics from C, and the two calls inside the fit: good and bad input. Its last line is 'N passed, M failed'. */
+#define _DEFAULT_SOURCE
 #include "kesupayro.h"
 
+#include "expect.h"
 #include "small_stack.h"
 #include <math.h>
 #include <string.h>
@@ -248,7 +250,7 @@ static void inside(void)
     EXPECT(c.some && c.faces == 64 && c.updates == 2673);
 }
 
-static void *all(void *nothing)
+static void all(void)
 {
     ranges();
     slices();
@@ -257,11 +259,12 @@ static void *all(void *nothing)
     diagnostics();
     updates();
     inside();
-    return nothing;
 }
 
 int main(void)
 {
     layouts();
-    return with_256_kib(all);
+    EXPECT(with_stack(PORT_STACK + TESTS_OWN, all) == 0);
+    printf("%d passed, %d failed\n", passed, failed);
+    return failed != 0;
 }

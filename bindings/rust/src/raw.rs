@@ -6,6 +6,10 @@ pub use crate::c::{exp, hypot, ln, run, sqrt};
 /// Bytes that hold every answer of [`run`].
 pub const MOST_ANSWER: usize = 32768;
 
+/// Bytes of stack that are enough for every call of the library, counted from the caller's frame. A thread needs its own share besides: the frames of the
+/// functions that lead to the call, and what the system puts there.
+pub const STACK: usize = 40960;
+
 /// One quote of an expiry. In memory it is the 32 bytes of a house file's record.
 #[repr(C)]
 #[derive(Debug, Clone, Copy, PartialEq)]

@@ -208,3 +208,12 @@ fn elementary_functions() {
 fn the_abi_number() {
     assert_eq!((abi(), ABI), (3, 3));
 }
+
+#[test]
+fn the_numbers_of_the_header() {
+    let number = |name: &str| {
+        let header = include_str!("../../../include/kesupayro.h");
+        header.lines().find_map(|line| line.strip_prefix("#define ")?.strip_prefix(name)?.parse::<usize>().ok()).unwrap()
+    };
+    assert_eq!((number("PORT_ABI "), number("PORT_MOST_ANSWER "), number("PORT_STACK ")), (ABI as usize, raw::MOST_ANSWER, raw::STACK));
+}
