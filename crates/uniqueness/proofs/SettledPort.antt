@@ -22,7 +22,7 @@ use Rattle.slice.specs.Slice.{evalOf, holdsK, leeSlopeOf, madeOf, minimumOf, ra
 use Rattle.slice.specs.declared.SviSlice.{SviSlice}
 use Rattle.solver.specs.Solve.{solveOf}
 use Rattle.surface.specs.Runs.{checkRun, runOf}
-use Rattle.text.specs.Place.{placed}
+use Rattle.text.specs.Place.{longest, placed}
 use lib.Ieee.{Float}
 use lib.ListN.{length}
 use mathlib.Core.Bool.{Bool}
@@ -62,7 +62,7 @@ pub port-exp : (x : Float) {r₁ r₂ : Float} → (r₁ ≡ expOf x) → (r₂ 
 port-exp x h₁ h₂ = settled h₁ h₂
 
 -- port::port_run
-pub port-run : (file : List ℕ) (out : List ℕ) {r₁ r₂ : ℕ} {out-exit₁ out-exit₂ : List ℕ} → ((r₁ ≡ length (answerOf file)) × (out-exit₁ ≡ placed (answerOf file) out) × (r₁ ≤ 32768)) → ((r₂ ≡ length (answerOf file)) × (out-exit₂ ≡ placed (answerOf file) out) × (r₂ ≤ 32768)) → (r₁ ≡ r₂) × (out-exit₁ ≡ out-exit₂)
+pub port-run : (file : List ℕ) (out : List ℕ) {r₁ r₂ : ℕ} {out-exit₁ out-exit₂ : List ℕ} → ((r₁ ≡ length (answerOf file)) × (out-exit₁ ≡ placed (answerOf file) out) × (r₁ ≤ longest)) → ((r₂ ≡ length (answerOf file)) × (out-exit₂ ≡ placed (answerOf file) out) × (r₂ ≤ longest)) → (r₁ ≡ r₂) × (out-exit₁ ≡ out-exit₂)
 port-run file out {r₁} {r₂} {out-exit₁} {out-exit₂} h₁ h₂ = (cc, cc)
 
 -- port::port_raw_k_range
