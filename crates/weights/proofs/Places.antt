@@ -4,10 +4,10 @@ use mathlib.Core.Bool.{Bool, _&&_, true}
 use mathlib.Core.List.{List, [], _∷_, _++_, map, append-assoc, map-append}
 use Prim.Native.Nat.{ℕ, suc, _+_, _-_, _/_, _≤_, _<_}
 use native.Mathlib.Omega.{arith}
-use native.Mathlib.Nat.{sub-zero}
+use native.Mathlib.Nat.{sub-zero, add-zero}
 use native.Mathlib.Numerals.{add-one}
 use lib.ListN.{length, take, drop, set, length-set, length-map, length-drop, List·getD-append}
-use lib.Seq.{take-suc-set, take-suc, drop-cons, slice, slice-cons, slice-empty, drop-length, take-length, take-at, drop-at, drop-drop, drop-set-lt, set-split, length-take-le}
+use lib.Seq.{take-suc-set, take-suc, drop-cons, getD-drop, slice, slice-cons, slice-empty, drop-length, take-length, take-at, drop-at, drop-drop, drop-set-lt, set-split, length-take-le}
 use lib.Ieee.{Float, nan}
 use Rattle.laws.specs.Floats.{_*f_, at, positive}
 use Rattle.laws.specs.Room.{atFront}
@@ -22,30 +22,38 @@ use Rattle.weights.specs.Weights.{insertOf, sortOf, lesser, greater, mid
 drop-more : (k : ℕ) (a b : List Float) → drop k a ≡ drop k b → drop (k + 1) a ≡ drop (k + 1) b
 drop-more k a b e = sym (drop-drop 1 k a) ∙ ap (drop 1) e ∙ drop-drop 1 k b
 
+at-drop : (k : ℕ) (a : List Float) → at (drop k a) 0 ≡ at a k
+at-drop k a = getD-drop k a 0 nan ∙ ap (at a) (add-zero k)
+
+-- and have the same at k
+at-same : (k : ℕ) (a b : List Float) → drop k a ≡ drop k b → at a k ≡ at b k
+at-same k a b e = sym (at-drop k a) ∙ ap (λ (l : List Float). at l 0) e ∙ at-drop k b
+
 -- ---- x goes through a: the first k have been passed, and `carry` goes on
 
 pub record Passing (n k : ℕ) (x carry : Float) (a out : List Float) : Type 0 where
   pub within : k ≤ n
-  pub long : length out ≡ 256
+  pub long : length out ≡ length a
   pub front : take k out ++ insertOf carry (slice k n a) ≡ insertOf x (take n a)
   pub back : drop k out ≡ drop k a
 
-pub passing-start : (n : ℕ) (x : Float) (a : List Float) → length a ≡ 256 → Passing n 0 x x a a
-passing-start n x a h = record { within = omega arith; long = h; front = refl; back = refl }
+pub passing-start : (n : ℕ) (x : Float) (a : List Float) → Passing n 0 x x a a
+passing-start n x a = record { within = omega arith; long = refl; front = refl; back = refl }
 
 pub passing-next :
-    (n k : ℕ) (x carry : Float) (a out : List Float) → k < n → n < 256 → length a ≡ 256 → Passing n k x carry a out
-    → Passing n (k + 1) x (greater carry (at a k)) a (set out k (lesser carry (at a k)))
+    (n k : ℕ) (x carry : Float) (a out : List Float) → k < n → n < length a → Passing n k x carry a out
+    → Passing n (k + 1) x (greater carry (at out k)) a (set out k (lesser carry (at out k)))
 unfolding insertOf
-passing-next n k x carry a out l m e h =
-    record {
+passing-next n k x carry a out l m h =
+    rw (at-same k out a (h .back))
+    (record {
       within = rw add-one l;
       long = length-set out k _ ∙ h .long;
       front = rw (add-one k, take-suc-set out k (lesser carry (at a k)) (rw (h .long) (omega arith)), append-assoc) (rw (slice-cons k n a nan l (omega arith)) at (h .front));
       back = drop-set-lt (k + 1) out k _ (omega arith) ∙ drop-more k out a (h .back);
-    }
+    })
 
-pub passing-end : (n : ℕ) (x carry : Float) (a out : List Float) → n < 256 → Passing n n x carry a out → set out n carry ≡ insertOf x (take n a) ++ drop (n + 1) a
+pub passing-end : (n : ℕ) (x carry : Float) (a out : List Float) → n < length a → Passing n n x carry a out → set out n carry ≡ insertOf x (take n a) ++ drop (n + 1) a
 unfolding insertOf
 passing-end n x carry a out l h =
     let e : take n out ++ (carry ∷ []) ≡ insertOf x (take n a) = rw (slice-empty n a) at (h .front) in
@@ -67,37 +75,37 @@ sort-length [] = refl
 sort-length (w ∷ weights) = insert-length w (sortOf weights) ∙ ap suc (sort-length weights)
 
 abbrev pub Sorting : List Float → List Float → ℕ → List Float → Type 0
-Sorting weights room m a = (m ≤ length weights) × (a ≡ sortOf (drop (length weights - m) weights) ++ drop m room)
+Sorting weights room m a = (m ≤ length weights) × (length a ≡ length room) × (a ≡ sortOf (drop (length weights - m) weights) ++ drop m room)
 
 pub sort-start : (weights room : List Float) → Sorting weights room 0 room
 unfolding sortOf
-sort-start weights room = (omega arith, rw (sub-zero (length weights), drop-length weights))
+sort-start weights room = (omega arith, refl, rw (sub-zero (length weights), drop-length weights))
 
 pub sort-next :
-    (weights room a next : List Float) (m : ℕ) → m < length weights → Sorting weights room m a → next ≡ insertOf (at weights (length weights - 1 - m)) (take m a) ++ drop (m + 1) a
+    (weights room a next : List Float) (m : ℕ) → m < length weights → Sorting weights room m a → length next ≡ length a → next ≡ insertOf (at weights (length weights - 1 - m)) (take m a) ++ drop (m + 1) a
     → Sorting weights room (m + 1) next
 unfolding sortOf
-sort-next weights room a next m h inv e =
+sort-next weights room a next m h inv same e =
     let i = length weights - 1 - m in
     let x : length weights - (m + 1) ≡ i = omega arith in
     let y : length weights - m ≡ suc i = omega arith in
     let s = sortOf (drop (length weights - m) weights) in
     let long : length s ≡ m = sort-length (drop (length weights - m) weights) ∙ length-drop (length weights - m) weights ∙ omega arith in
-    let front : take m a ≡ s = ap (take m) (inv .1) ∙ take-at s (drop m room) m long in
-    let back : drop (m + 1) a ≡ drop (m + 1) room = drop-more m a room (ap (drop m) (inv .1) ∙ drop-at s (drop m room) m long) in
+    let front : take m a ≡ s = ap (take m) (inv .2) ∙ take-at s (drop m room) m long in
+    let back : drop (m + 1) a ≡ drop (m + 1) room = drop-more m a room (ap (drop m) (inv .2) ∙ drop-at s (drop m room) m long) in
     let one : insertOf (at weights i) s ≡ sortOf (drop (length weights - (m + 1)) weights) = rw (x, y, drop-cons weights i nan (omega arith)) in
-    (omega arith, e ∙ ap (λ (l : List Float). insertOf (at weights i) l ++ drop (m + 1) a) front ∙ ap (λ (l : List Float). insertOf (at weights i) s ++ l) back ∙ ap (λ (l : List Float). l ++ drop (m + 1) room) one)
+    (omega arith, same ∙ inv .1, e ∙ ap (λ (l : List Float). insertOf (at weights i) l ++ drop (m + 1) a) front ∙ ap (λ (l : List Float). insertOf (at weights i) s ++ l) back ∙ ap (λ (l : List Float). l ++ drop (m + 1) room) one)
 
 pub sort-end : (weights room a : List Float) (m : ℕ) → length weights ≤ m → Sorting weights room m a → a ≡ atFront (sortOf weights) room
 sort-end weights room a m h inv =
     let e : m ≡ length weights = omega (arith, inv .0, h) in
     let z : length weights - m ≡ 0 = omega arith in
-    inv .1 ∙ ap (λ (k : ℕ). sortOf (drop k weights) ++ drop m room) z ∙ ap (λ (k : ℕ). sortOf weights ++ drop k room) (e ∙ sym (sort-length weights))
+    inv .2 ∙ ap (λ (k : ℕ). sortOf (drop k weights) ++ drop m room) z ∙ ap (λ (k : ℕ). sortOf weights ++ drop k room) (e ∙ sym (sort-length weights))
 
 -- ---- the weights scaled by f, one after the other
 
 abbrev pub Scaling : (Float → Float) → List Float → List Float → ℕ → List Float → Type 0
-Scaling f weights room i a = (i ≤ length weights) × (a ≡ map f (take i weights) ++ drop i room)
+Scaling f weights room i a = (i ≤ length weights) × (length a ≡ length room) × (a ≡ map f (take i weights) ++ drop i room)
 
 pub scale-next :
     (f : Float → Float) (weights room a : List Float) (i : ℕ) → i < length weights → i < length room → Scaling f weights room i a → Scaling f weights room (i + 1) (set a i (f (at weights i)))
@@ -105,12 +113,12 @@ scale-next f weights room a i h k inv =
     let p = map f (take i weights) in
     let long : length p ≡ i = length-map (take i weights) f ∙ length-take-le i weights (omega arith) in
     let one : map f (take (i + 1) weights) ≡ p ++ (f (at weights i) ∷ []) = rw (add-one i, take-suc weights i nan h, map-append) in
-    (omega arith, ap (λ (l : List Float). set l i (f (at weights i))) (inv .1) ∙ put-next nan p room i (i + 1) (f (at weights i)) long k (omega arith) ∙ ap (λ (l : List Float). l ++ drop (i + 1) room) (sym one))
+    (omega arith, length-set a i _ ∙ inv .1, ap (λ (l : List Float). set l i (f (at weights i))) (inv .2) ∙ put-next nan p room i (i + 1) (f (at weights i)) long k (omega arith) ∙ ap (λ (l : List Float). l ++ drop (i + 1) room) (sym one))
 
 pub scale-end : (f : Float → Float) (weights room a : List Float) (i : ℕ) → length weights ≤ i → Scaling f weights room i a → a ≡ atFront (map f weights) room
 scale-end f weights room a i h inv =
     let e : i ≡ length weights = omega (arith, inv .0, h) in
-    inv .1 ∙ ap (λ (k : ℕ). map f (take k weights) ++ drop k room) e ∙ ap (λ (l : List Float). map f l ++ drop (length weights) room) (take-length weights)
+    inv .2 ∙ ap (λ (k : ℕ). map f (take k weights) ++ drop k room) e ∙ ap (λ (l : List Float). map f l ++ drop (length weights) room) (take-length weights)
     ∙ ap (λ (k : ℕ). map f weights ++ drop k room) (sym (length-map weights f))
 
 -- ---- what stands behind a list does not count

@@ -13,42 +13,37 @@ pub struct Weights {
     pub w: [f64; 256],
 }
 
-// The first n of `a` with x put among them: at each place the lesser stays, and the greater goes on.
-fn insert(a: [f64; 256], n: usize, x: f64) -> [f64; 256]
-    requires { ⌜ n < 256 ⌝ }
-    ensures { λ r. ⌜ r ≡ insertOf x (take n a) ++ drop (n + 1) a ⌝ }
+// x is put among the first n of `a`: at each place the lesser stays, and the greater goes on.
+fn insert(a: &mut [f64], n: usize, x: f64)
+    requires { ⌜ n < length (now a) ⌝ }
+    ensures { λ r. ⌜ now (a .exit) ≡ insertOf x (take n (now (a .entry))) ++ drop (n + 1) (now (a .entry)) ⌝ }
 {
-    let mut out = a;
     let mut carry = x;
     for k in 0..n {
         let y = a[k];
         let less = carry < y;
-        out[k] = bits::pick(less, carry, y);
+        a[k] = bits::pick(less, carry, y);
         carry = bits::pick(less, y, carry);
     }
-    out[n] = carry;
-    out
+    a[n] = carry;
 }
 
 // The weights in ascending order, in the first places of the room.
-fn sort(room: [f64; 256], weights: &[f64]) -> [f64; 256]
-    requires { ⌜ length (now weights) ≤ 256 ⌝ }
-    ensures { λ r. ⌜ r ≡ atFront (sortOf (now (weights .entry))) room ⌝ }
+fn sort(room: &mut [f64], weights: &[f64])
+    requires { ⌜ length (now weights) ≤ length (now room) ⌝ }
+    ensures { λ r. ⌜ now (room .exit) ≡ atFront (sortOf (now (weights .entry))) (now (room .entry)) ⌝ }
 {
     let n = weights.len();
-    let mut a = room;
     for m in 0..n {
         let w = weights[n - 1 - m];
-        let next = insert(a, m, w);
-        a = next;
+        insert(room, m, w);
     }
-    a
 }
 
-// The middle of the first n of a sorted array.
-fn middle(a: [f64; 256], n: usize) -> f64
-    requires { ⌜ (1 ≤ n) × (n ≤ 256) ⌝ }
-    ensures { λ r. ⌜ r ≡ midOf n a ⌝ }
+// The middle of the first n, which are sorted.
+fn middle(a: &[f64], n: usize) -> f64
+    requires { ⌜ (1 ≤ n) × (n ≤ length (now a)) ⌝ }
+    ensures { λ r. ⌜ r ≡ midOf n (now (a .entry)) ⌝ }
 {
     let h = n / 2;
     let hi = a[h];
@@ -71,21 +66,19 @@ fn top(weights: &[f64], cap: f64) -> f64
 }
 
 // Each weight, capped, over the largest, in the first places of the room.
-fn scale(room: [f64; 256], weights: &[f64], cap: f64, most: f64) -> [f64; 256]
-    requires { ⌜ length (now weights) ≤ 256 ⌝ }
-    ensures { λ r. ⌜ r ≡ atFront (map (scaleOne cap most) (now (weights .entry))) room ⌝ }
+fn scale(room: &mut [f64], weights: &[f64], cap: f64, most: f64)
+    requires { ⌜ length (now weights) ≤ length (now room) ⌝ }
+    ensures { λ r. ⌜ now (room .exit) ≡ atFront (map (scaleOne cap most) (now (weights .entry))) (now (room .entry)) ⌝ }
 {
-    let mut a = room;
     for i in 0..weights.len() {
-        a[i] = bits::min(weights[i], cap) / most;
+        room[i] = bits::min(weights[i], cap) / most;
     }
-    a
 }
 
 // Whether each of the first n is finite and positive.
-fn all_good(a: [f64; 256], n: usize) -> bool
-    requires { ⌜ n ≤ 256 ⌝ }
-    ensures { λ r. ⌜ r ≡ goodFirst n a ⌝ }
+fn all_good(a: &[f64], n: usize) -> bool
+    requires { ⌜ n ≤ length (now a) ⌝ }
+    ensures { λ r. ⌜ r ≡ goodFirst n (now (a .entry)) ⌝ }
 {
     let mut good = true;
     for i in 0..n {
@@ -102,14 +95,12 @@ fn weigh(weights: &[f64], ratio: f64) -> Weights
 {
     let n = weights.len();
     let mut room = [0.0; 256];
-    let sorted = sort(room, weights);
-    room = sorted;
-    let cap = ratio * middle(room, n);
+    sort(&mut room, weights);
+    let cap = ratio * middle(&room, n);
     let most = top(weights, cap);
-    let scaled = scale(room, weights, cap, most);
-    room = scaled;
+    scale(&mut room, weights, cap, most);
     Weights {
-        ok: all_good(room, n),
+        ok: all_good(&room, n),
         cap,
         w: room,
     }

@@ -13,16 +13,16 @@ use Rattle.weights.proofs.all_good.Statement.{statement}
 use Rattle.weights.proofs.all_good.Tie as tie
 
 abbrev Inv-loop : tie.InvT-loop
-Inv-loop n a good₀ i₀ good i = for i n (λ i g. g && positive (at a i)) good ≡ goodFirst n a
+Inv-loop a n good₀ i₀ good i = for i n (λ i g. g && positive (at a i)) good ≡ goodFirst n a
 
 abbrev μ-loop : tie.MeasureT-loop
-μ-loop n a good₀ i₀ good i = n - i
+μ-loop a n good₀ i₀ good i = n - i
 
 loop-holds : tie.Need-loop-holds Inv-loop μ-loop
 loop-holds c = refl
 
 loop-again : tie.Need-loop-again Inv-loop μ-loop
-loop-again c = again _ _ _ (c .before .loop-test .taken) (ap (λ (b : Bool). c .before .before .loop .good && (b && lt +0 (at (c .before .before .before .args .t1) (c .before .before .loop .i)))) (c .is-finite .ensures)) (c .before .before .loop .inv)
+loop-again c = again _ _ _ (c .before .before .loop-test .taken) (ap (λ (b : Bool). c .before .before .before .loop .good && (b && lt +0 (at (c .before .before .before .before .before .args .a .now) (c .before .before .before .loop .i)))) (c .is-finite .ensures)) (c .before .before .before .loop .inv)
 
 returns : tie.Need-returns Inv-loop μ-loop
 returns c = ended _ _ _ (c .loop-test .left) (c .before .loop .inv)

@@ -7,7 +7,7 @@ use Rattle.weights.proofs.middle.Tie as tie
 
 returns : tie.Need-returns
 unfolding midOf
-returns c = simp (eq-eqb _ _ (c .if1 .taken))
+returns c = simp (eq-eqb _ _ (c .before .if1 .taken))
 
 returns-2 : tie.Need-returns-2
 unfolding midOf

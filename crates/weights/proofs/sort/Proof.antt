@@ -7,22 +7,22 @@ use Rattle.weights.proofs.sort.Statement.{statement}
 use Rattle.weights.proofs.sort.Tie as tie
 
 abbrev Inv-loop : tie.InvT-loop
-Inv-loop weights n a₀ m₀ a m = Sorting weights a₀ m a
+Inv-loop room₀ weights n m₀ room m = Sorting weights room₀ m room
 
 abbrev μ-loop : tie.MeasureT-loop
-μ-loop weights n a₀ m₀ a m = length weights - m
+μ-loop room₀ weights n m₀ room m = length weights - m
 
 loop-holds : tie.Need-loop-holds Inv-loop μ-loop
-loop-holds c = sort-start (c .before .args .weights .now) (c .before .args .room)
-
-insert-requires : tie.Need-insert-requires Inv-loop μ-loop
-insert-requires c κs = omega arith
+loop-holds c = sort-start (c .before .before .args .weights .now) (c .before .before .args .room .now)
 
 loop-again : tie.Need-loop-again Inv-loop μ-loop
-loop-again c = sort-next (c .before .before .before .before .before .args .weights .now) (c .before .before .before .before .before .args .room) (c .before .before .before .loop .a) (c .insert .result) (c .before .before .before .loop .m) (c .before .before .loop-test .taken) (c .before .before .before .loop .inv) (c .insert .ensures)
+loop-again c = sort-next (c .before .before .before .before .before .before .before .before .before .args .weights .now) (c .before .before .before .before .before .before .before .before .before .args .room .now) (c .before .before .before .before .before .before .loop .room) (c .before .before .insert .last .0) (c .before .before .before .before .before .before .loop .m) (c .before .before .before .before .before .loop-test .taken) (c .before .before .before .before .before .before .loop .inv) (c .before .before .insert .kept .0) (c .before .before .insert .ensures)
+
+same-length : tie.Need-same-length Inv-loop μ-loop
+same-length c = c .before .loop .inv .1
 
 returns : tie.Need-returns Inv-loop μ-loop
-returns c = sort-end (c .before .before .before .args .weights .now) (c .before .before .before .args .room) (c .before .loop .a) (c .before .loop .m) (c .loop-test .left) (c .before .loop .inv)
+returns c = sort-end (c .before .before .before .before .args .weights .now) (c .before .before .before .before .args .room .now) (c .before .loop .room) (c .before .loop .m) (c .loop-test .left) (c .before .loop .inv)
 
 pub sort-spec : {M : Type 1} → statement M
 sort-spec =
@@ -35,8 +35,9 @@ sort-spec =
     (λ c. omega arith)
     (λ c. omega arith)
     (λ c. omega arith)
-    insert-requires
+    (λ c κs. omega arith)
     (λ c. omega arith)
     (λ c. omega arith)
     loop-again
+    same-length
     returns)
