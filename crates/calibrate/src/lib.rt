@@ -108,14 +108,14 @@ pub fn fit_slice(
     if number != 0 {
         return refused_early(number, k.len(), config.min_observations);
     }
-    let scaled = weights::weights_of(weight, config.max_weight_ratio);
+    let mut room = [0.0; 256];
+    let scaled = weights::weights_of(weight, config.max_weight_ratio, &mut room);
     let good = scaled.ok;
     if !good {
         return refused_early(5, 0, 0);
     }
-    let weights = scaled.w;
     let n = weight.len();
-    let a = decided(tau, config, k, w, &weights[..n]);
+    let a = decided(tau, config, k, w, &room[..n]);
     let bad = a.number;
     if bad != 0 {
         return a;

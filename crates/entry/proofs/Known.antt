@@ -11,8 +11,8 @@ use borrow.Author.Tests.{eq-eqb, ne-eqb, eqb-true, leb-true}
 use Rattle.laws.specs.Floats.{positive}
 use Rattle.laws.proofs.Choices.{both, passed-one, if-true, if-false, false-true}
 use Rattle.weights.specs.declared.Weights.{Weights}
-use Rattle.weights.specs.Weights.{capOf, scaledOf, allGood, weighed, weightsOf}
-use Rattle.weights.proofs.Places.{weights-are, take-weighed, scaled-length}
+use Rattle.weights.specs.Weights.{capOf, scaledOf, allGood, weighed, weightsOf, scaledIn}
+use Rattle.weights.proofs.Places.{weights-are, take-scaled, scaled-length}
 use Rattle.records.specs.declared.FitConfig.{FitConfig}
 use Rattle.records.specs.Settings.{settingsHold, sizesHold}
 use Rattle.entry.specs.Entry.{lengthsHold, columnsPass, checksNumber, entryNumber}
@@ -126,24 +126,30 @@ module _ (tau : Float) (c : FitConfig) (ks ws weights : List Float) (room slots 
 -- ---- the weights of such an input
 
 module _ (ratio : Float) (c : FitConfig) (ks ws weights : List Float) (s : Sized c ks ws weights) where
+  some-now : 1 ≤ length weights
+  some-now = omega (arith, s .least, s .weights-long)
+
+  few-now : length weights ≤ 256
+  few-now = omega (arith, s .most, s .weights-long)
+
   weighed-now : weightsOf ratio weights ≡ weighed ratio weights
-  weighed-now = weights-are ratio weights (omega (arith, s .least, s .weights-long)) (omega (arith, s .most, s .weights-long))
+  weighed-now = weights-are ratio weights some-now few-now
 
   -- of what the code holds, w
   module _ (w : Weights) (e : w ≡ weightsOf ratio weights) where
     pub ok-is : w .ok ≡ allGood (scaledOf ratio weights)
-    unfolding weighed
     ok-is = ap (λ (w : Weights). w .ok) (e ∙ weighed-now)
 
     pub cap-is : w .cap ≡ capOf ratio weights
-    unfolding weighed
     cap-is = ap (λ (w : Weights). w .cap) (e ∙ weighed-now)
 
-    pub taken : take (length weights) (w .w) ≡ scaledOf ratio weights
-    taken = ap (λ (w : Weights). take (length weights) (w .w)) (e ∙ weighed-now) ∙ take-weighed ratio weights
+  -- and of the room that it lent, as it was before and after
+  module _ (before after : List Float) (e : after ≡ scaledIn ratio weights before) where
+    pub taken : take (length weights) after ≡ scaledOf ratio weights
+    taken = ap (take (length weights)) e ∙ take-scaled ratio weights before some-now few-now
 
-    pub scaled-long : length (take (length weights) (w .w)) ≡ length weights
+    pub scaled-long : length (take (length weights) after) ≡ length weights
     scaled-long = ap length taken ∙ scaled-length ratio weights
 
-    pub scaled-within : length weights ≤ length (w .w)
-    scaled-within = omega (arith, scaled-long, length-take (length weights) (w .w))
+    pub scaled-within : length weights ≤ length after
+    scaled-within = omega (arith, scaled-long, length-take (length weights) after)

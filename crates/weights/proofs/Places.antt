@@ -16,7 +16,7 @@ use Rattle.laws.proofs.Choices.{if-true}
 use Rattle.laws.proofs.Loops.{for-same}
 use Rattle.laws.proofs.Rooms.{put-next}
 use Rattle.weights.specs.declared.Weights.{Weights}
-use Rattle.weights.specs.Weights.{insertOf, sortOf, lesser, greater, midOf, medianOf, capOf, topOf, scaleOne, scaledOf, goodFirst, allGood, zeros, weighed, weightsOf}
+use Rattle.weights.specs.Weights.{insertOf, sortOf, lesser, greater, midOf, medianOf, capOf, topOf, scaleOne, scaledOf, goodFirst, allGood, weighable, weighed, weightsOf, scaledIn}
 
 -- lists that agree from k on agree from k + 1 on
 drop-more : (k : ℕ) (a b : List Float) → drop k a ≡ drop k b → drop (k + 1) a ≡ drop (k + 1) b
@@ -142,35 +142,39 @@ over-front l s room e = ap (λ (r : List Float). l ++ r) (drop-at s (drop (lengt
 
 -- ---- step 3 as the code makes it: the room with the sorted weights, then with the scaled ones
 pub weighed-is :
-    (ratio : Float) (weights sorted scaled : List Float) (mid most : Float) (ok : Bool)
+    (ratio : Float) (weights room sorted scaled : List Float) (mid most : Float) (ok : Bool)
     → 1 ≤ length weights
-    → sorted ≡ atFront (sortOf weights) zeros
+    → sorted ≡ atFront (sortOf weights) room
     → mid ≡ midOf (length weights) sorted
     → most ≡ topOf (ratio *f mid) weights
     → scaled ≡ atFront (map (scaleOne (ratio *f mid) most) weights) sorted
     → ok ≡ goodFirst (length weights) scaled
-    → _≡_ {A = Weights} (record { ok = ok; cap = ratio *f mid; w = scaled }) (weighed ratio weights)
-unfolding weighed
-weighed-is ratio weights sorted scaled mid most ok h e1 e2 e3 e4 e5 =
+    → (_≡_ {A = Weights} (record { ok = ok; cap = ratio *f mid }) (weighed ratio weights)) × (scaled ≡ atFront (scaledOf ratio weights) room)
+weighed-is ratio weights room sorted scaled mid most ok h e1 e2 e3 e4 e5 =
     let n = length weights in
     let f : Float → Float = scaleOne (capOf ratio weights) (topOf (capOf ratio weights) weights) in
-    let m : mid ≡ medianOf weights = e2 ∙ ap (midOf n) e1 ∙ mid-front n (sortOf weights) zeros (sort-length weights) h in
+    let m : mid ≡ medianOf weights = e2 ∙ ap (midOf n) e1 ∙ mid-front n (sortOf weights) room (sort-length weights) h in
     let t : most ≡ topOf (capOf ratio weights) weights = e3 ∙ ap (λ (x : Float). topOf (ratio *f x) weights) m in
-    let s : scaled ≡ atFront (scaledOf ratio weights) zeros =
+    let s : scaled ≡ atFront (scaledOf ratio weights) room =
     e4 ∙ ap (λ (x : Float). atFront (map (scaleOne (ratio *f x) most) weights) sorted) m ∙ ap (λ (x : Float). atFront (map (scaleOne (capOf ratio weights) x) weights) sorted) t
-    ∙ ap (atFront (scaledOf ratio weights)) e1 ∙ over-front (scaledOf ratio weights) (sortOf weights) zeros (length-map weights f ∙ sym (sort-length weights)) in
-    let o : ok ≡ allGood (scaledOf ratio weights) = e5 ∙ ap (goodFirst n) s ∙ good-front n (scaledOf ratio weights) zeros (length-map weights f) in
-    λ i. record { ok = o i; cap = ratio *f m i; w = s i }
+    ∙ ap (atFront (scaledOf ratio weights)) e1 ∙ over-front (scaledOf ratio weights) (sortOf weights) room (length-map weights f ∙ sym (sort-length weights)) in
+    let o : ok ≡ allGood (scaledOf ratio weights) = e5 ∙ ap (goodFirst n) s ∙ good-front n (scaledOf ratio weights) room (length-map weights f) in
+    (λ i. record { ok = o i; cap = ratio *f m i }, s)
 
 -- ---- what a caller with 1 to 256 weights holds
 
 pub scaled-length : (ratio : Float) (weights : List Float) → length (scaledOf ratio weights) ≡ length weights
 scaled-length ratio weights = length-map weights (scaleOne (capOf ratio weights) (topOf (capOf ratio weights) weights))
 
+are-weighable : (weights : List Float) → 1 ≤ length weights → length weights ≤ 256 → weighable weights ≡ true
+are-weighable weights l h = rw (le-leb 1 (length weights) l) (le-leb (length weights) 256 h)
+
 pub weights-are : (ratio : Float) (weights : List Float) → 1 ≤ length weights → length weights ≤ 256 → weightsOf ratio weights ≡ weighed ratio weights
 unfolding weightsOf
-weights-are ratio weights l h = sym (if-true _ (le-leb 1 (length weights) l) (if-true _ (le-leb (length weights) 256 h) refl))
+weights-are ratio weights l h = sym (if-true _ (are-weighable weights l h) refl)
 
-pub take-weighed : (ratio : Float) (weights : List Float) → take (length weights) (weighed ratio weights .w) ≡ scaledOf ratio weights
-unfolding weighed
-take-weighed ratio weights = take-at (scaledOf ratio weights) (drop (length (scaledOf ratio weights)) zeros) (length weights) (scaled-length ratio weights)
+pub take-scaled : (ratio : Float) (weights room : List Float) → 1 ≤ length weights → length weights ≤ 256 → take (length weights) (scaledIn ratio weights room) ≡ scaledOf ratio weights
+unfolding scaledIn
+take-scaled ratio weights room l h =
+    let s = scaledOf ratio weights in
+    ap (take (length weights)) (sym (if-true room (are-weighable weights l h) refl)) ∙ take-at s (drop (length s) room) (length weights) (scaled-length ratio weights)

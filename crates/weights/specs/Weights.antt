@@ -4,7 +4,7 @@ use mathlib.Core.Bool.{Bool, true, false, _&&_, cond}
 use mathlib.Core.List.{List, [], _∷_, _++_, map}
 use Prim.Native.Nat.{ℕ, _-_, _/_, _%_}
 use lib.Dec.{eqb, leb}
-use lib.ListN.{length, replicate}
+use lib.ListN.{length}
 use lib.Ieee.{Float, lt}
 use Rattle.laws.specs.Loop.{for}
 use Rattle.laws.specs.Choice.{unless}
@@ -73,20 +73,18 @@ goodFirst n weights = for 0 n (λ i good. good && positive (at weights i)) true
 unfoldable pub allGood : List Float → Bool
 allGood weights = goodFirst (length weights) weights
 
--- ---- what step 3 hands on
+-- ---- what step 3 hands on: of 1 to 256 weights; of any other count nothing is made
 
--- the working room
-abbrev pub zeros : List Float
-zeros = replicate 256 +0
+abbrev pub weighable : List Float → Bool
+weighable weights = leb 1 (length weights) && leb (length weights) 256
 
-unfoldable pub weighed : Float → List Float → Weights
-weighed ratio weights =
-    record { ok = allGood (scaledOf ratio weights); cap = capOf ratio weights; w = atFront (scaledOf ratio weights) zeros }
+-- whether each scaled weight is finite and positive, and the cap
+abbrev pub weighed : Float → List Float → Weights
+weighed ratio weights = record { ok = allGood (scaledOf ratio weights); cap = capOf ratio weights }
 
--- of 1 to 256 weights
 unfoldable pub weightsOf : Float → List Float → Weights
-weightsOf ratio weights =
-    let nothing : Weights = record { ok = false; cap = +0; w = zeros } in
-    unless (leb 1 (length weights)) nothing
-    (unless (leb (length weights) 256) nothing
-    (weighed ratio weights))
+weightsOf ratio weights = unless (weighable weights) (record { ok = false; cap = +0 }) (weighed ratio weights)
+
+-- what the lent room holds afterwards: the scaled weights at its front; where nothing is made, it is as it was
+unfoldable pub scaledIn : Float → List Float → List Float → List Float
+scaledIn ratio weights room = unless (weighable weights) room (atFront (scaledOf ratio weights) room)

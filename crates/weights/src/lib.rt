@@ -4,13 +4,12 @@ ghost use mathlib.Core.List.{map, _++_};
 ghost use Prim.Native.Nat.{_+_, _≤_, _<_};
 ghost use lib.ListN.{length, take, drop};
 ghost use Rattle.laws.specs.Room.{atFront};
-ghost use Rattle.weights.specs.Weights.{insertOf, sortOf, midOf, topOf, scaleOne, goodFirst, weighed, weightsOf};
+ghost use Rattle.weights.specs.Weights.{insertOf, sortOf, midOf, topOf, scaleOne, scaledOf, goodFirst, weighed, weightsOf, scaledIn};
 
-// What step 3 hands on: whether every scaled weight is finite and positive, the cap, and the scaled weights in the first places of room for 256.
+// What step 3 hands on beside the scaled weights, which stand in lent room: whether each of them is finite and positive, and the cap.
 pub struct Weights {
     pub ok: bool,
     pub cap: f64,
-    pub w: [f64; 256],
 }
 
 // x is put among the first n of `a`: at each place the lesser stays, and the greater goes on.
@@ -89,41 +88,33 @@ fn all_good(a: &[f64], n: usize) -> bool
 }
 
 // The room is filled with the sorted weights, for the median, and then with the scaled ones.
-fn weigh(weights: &[f64], ratio: f64) -> Weights
-    requires { ⌜ (1 ≤ length (now weights)) × (length (now weights) ≤ 256) ⌝ }
+fn weigh(weights: &[f64], ratio: f64, room: &mut [f64]) -> Weights
+    requires { ⌜ (1 ≤ length (now weights)) × (length (now weights) ≤ length (now room)) ⌝ }
     ensures { λ r. ⌜ r ≡ weighed ratio (now (weights .entry)) ⌝ }
+    ensures { λ r. ⌜ now (room .exit) ≡ atFront (scaledOf ratio (now (weights .entry))) (now (room .entry)) ⌝ }
 {
     let n = weights.len();
-    let mut room = [0.0; 256];
-    sort(&mut room, weights);
-    let cap = ratio * middle(&room, n);
+    sort(room, weights);
+    let cap = ratio * middle(room, n);
     let most = top(weights, cap);
-    scale(&mut room, weights, cap, most);
+    scale(room, weights, cap, most);
     Weights {
-        ok: all_good(&room, n),
+        ok: all_good(room, n),
         cap,
-        w: room,
     }
 }
 
-// The weights of step 3; of none, and of more than 256, nothing is made.
-pub fn weights_of(weights: &[f64], ratio: f64) -> Weights
+// The weights of step 3, in the first places of the lent room; of none, and of more than 256, nothing is made, and the room is left as it was.
+pub fn weights_of(weights: &[f64], ratio: f64, room: &mut [f64; 256]) -> Weights
     ensures { λ r. ⌜ r ≡ weightsOf ratio (now (weights .entry)) ⌝ }
+    ensures { λ r. ⌜ now (room .exit) ≡ scaledIn ratio (now (weights .entry)) (now (room .entry)) ⌝ }
 {
     let n = weights.len();
-    if n < 1 {
-        return Weights {
-            ok: false,
-            cap: 0.0,
-            w: [0.0; 256],
-        };
+    if (1 <= n) & (n <= 256) {
+        return weigh(weights, ratio, room);
     }
-    if 256 < n {
-        return Weights {
-            ok: false,
-            cap: 0.0,
-            w: [0.0; 256],
-        };
+    Weights {
+        ok: false,
+        cap: 0.0,
     }
-    weigh(weights, ratio)
 }

@@ -27,24 +27,24 @@ returns c =
 returns-2 : tie.Need-returns-2
 unfolding fitOf refusedWith
 returns-2 c =
-    let a = c .before .before .before .before .before .before .before .before .before .before .args in
-    let s = passed (a .tau) (a .config) (a .k .now) (a .w .now) (a .weight .now) _ _ (sym (c .before .before .before .before .checks .ensures) ∙ c .before .before .before .if1 .left) .sized in
+    let a = c .before .before .before .before .before .before .before .before .before .before .before .args in
+    let s = passed (a .tau) (a .config) (a .k .now) (a .w .now) (a .weight .now) _ _ (sym (c .before .before .before .before .before .checks .ensures) ∙ c .before .before .before .before .if1 .left) .sized in
     refuses
     (c .refused-early2 .ensures
-    ∙ number-no _ (λ (n : ℕ). refusedEarly n (length (a .k .now)) (a .config .«min_observations»)) (entry-five (a .tau) (a .config) (a .k .now) (a .w .now) (a .weight .now) _ _ (sym (c .before .before .before .before .checks .ensures) ∙ c .before .before .before .if1 .left) (sym (ok-is (a .config .«max_weight_ratio») (a .config) (a .k .now) (a .w .now) (a .weight .now) s (c .before .before .weights-of .result) (c .before .before .weights-of .ensures)) ∙ not-true _ (c .before .if2 .taken))) (λ z. omega arith))
+    ∙ number-no _ (λ (n : ℕ). refusedEarly n (length (a .k .now)) (a .config .«min_observations»)) (entry-five (a .tau) (a .config) (a .k .now) (a .w .now) (a .weight .now) _ _ (sym (c .before .before .before .before .before .checks .ensures) ∙ c .before .before .before .before .if1 .left) (sym (ok-is (a .config .«max_weight_ratio») (a .config) (a .k .now) (a .w .now) (a .weight .now) s (c .before .before .weights-of .result) (c .before .before .weights-of .ensures .0)) ∙ not-true _ (c .before .if2 .taken))) (λ z. omega arith))
     (λ z. let y : _≡_ {A = ℕ} 5 0 = sym (ap (λ (r : FitAnswer). r .number) (c .refused-early2 .ensures)) ∙ z in omega arith)
 
-array-share-prefix-weights : tie.Need-array-share-prefix-weights
-array-share-prefix-weights c =
+array-share-prefix-room : tie.Need-array-share-prefix-room
+array-share-prefix-room c =
     let a = c .before .before .before .before .before .before .before .before .before .before .args in
     let s = passed (a .tau) (a .config) (a .k .now) (a .w .now) (a .weight .now) _ _ (sym (c .before .before .before .before .checks .ensures) ∙ c .before .before .before .if1 .left) .sized in
-    scaled-within (a .config .«max_weight_ratio») (a .config) (a .k .now) (a .w .now) (a .weight .now) s (c .before .before .weights-of .result) (c .before .before .weights-of .ensures)
+    scaled-within (a .config .«max_weight_ratio») (a .config) (a .k .now) (a .w .now) (a .weight .now) s _ _ (c .before .weights-of .ensures .1)
 
 slice-aggregate-decided : tie.Need-slice-aggregate-decided
 slice-aggregate-decided c =
     let a = c .before .before .before .before .before .before .before .before .before .before .before .args in
     let s = passed (a .tau) (a .config) (a .k .now) (a .w .now) (a .weight .now) _ _ (sym (c .before .before .before .before .before .checks .ensures) ∙ c .before .before .before .before .if1 .left) .sized in
-    sym (scaled-long (a .config .«max_weight_ratio») (a .config) (a .k .now) (a .w .now) (a .weight .now) s (c .before .before .before .weights-of .result) (c .before .before .before .weights-of .ensures))
+    sym (scaled-long (a .config .«max_weight_ratio») (a .config) (a .k .now) (a .w .now) (a .weight .now) s _ _ (c .before .before .weights-of .ensures .1))
 
 decided-requires : tie.Need-decided-requires
 decided-requires c κs =
@@ -54,7 +54,7 @@ decided-requires c κs =
       least = s .least;
       most = s .most;
       ws-long = s .ws-long;
-      weights-long = scaled-long (a .config .«max_weight_ratio») (a .config) (a .k .now) (a .w .now) (a .weight .now) s (c .before .before .before .weights-of .result) (c .before .before .before .weights-of .ensures) ∙ s .weights-long;
+      weights-long = scaled-long (a .config .«max_weight_ratio») (a .config) (a .k .now) (a .w .now) (a .weight .now) s _ _ (c .before .before .weights-of .ensures .1) ∙ s .weights-long;
       grid = s .grid;
       refinements = s .refinements;
       recentres = s .recentres;
@@ -66,9 +66,9 @@ returns-3 c =
     let a = c .before .before .before .before .before .before .before .before .before .before .before .before .before .args in
     let s = passed (a .tau) (a .config) (a .k .now) (a .w .now) (a .weight .now) _ _ (sym (c .before .before .before .before .before .before .before .checks .ensures) ∙ c .before .before .before .before .before .before .if1 .left) .sized in
     let e : c .before .decided .result ≡ decidedOf (a .tau) (a .config) (a .k .now) (a .w .now) (scaledOf (a .config .«max_weight_ratio») (a .weight .now)) =
-    c .before .decided .ensures ∙ ap (decidedOf (a .tau) (a .config) (a .k .now) (a .w .now)) (taken (a .config .«max_weight_ratio») (a .config) (a .k .now) (a .w .now) (a .weight .now) s (c .before .before .before .before .before .weights-of .result) (c .before .before .before .before .before .weights-of .ensures)) in
+    c .before .decided .ensures ∙ ap (decidedOf (a .tau) (a .config) (a .k .now) (a .w .now)) (taken (a .config .«max_weight_ratio») (a .config) (a .k .now) (a .w .now) (a .weight .now) s _ _ (c .before .before .before .before .weights-of .ensures .1)) in
     refuses
-    (number-goes _ (entry-none (a .tau) (a .config) (a .k .now) (a .w .now) (a .weight .now) _ _ (sym (c .before .before .before .before .before .before .before .checks .ensures) ∙ c .before .before .before .before .before .before .if1 .left) (sym (ok-is (a .config .«max_weight_ratio») (a .config) (a .k .now) (a .w .now) (a .weight .now) s (c .before .before .before .before .before .weights-of .result) (c .before .before .before .before .before .weights-of .ensures)) ∙ not-false _ (c .before .before .before .before .if2 .left))) refl
+    (number-goes _ (entry-none (a .tau) (a .config) (a .k .now) (a .w .now) (a .weight .now) _ _ (sym (c .before .before .before .before .before .before .before .checks .ensures) ∙ c .before .before .before .before .before .before .if1 .left) (sym (ok-is (a .config .«max_weight_ratio») (a .config) (a .k .now) (a .w .now) (a .weight .now) s (c .before .before .before .before .weights-of .result) (c .before .before .before .before .weights-of .ensures .0)) ∙ not-false _ (c .before .before .before .if2 .left))) refl
     (number-stops _ (ap (λ (r : FitAnswer). r .number) e) (c .if3 .taken) e))
     (c .if3 .taken)
 
@@ -89,9 +89,9 @@ returns-4 c =
     let a = c .before .before .before .before .before .before .before .before .before .before .before .before .before .before .before .before .before .before .before .before .before .before .before .args in
     let s = passed (a .tau) (a .config) (a .k .now) (a .w .now) (a .weight .now) _ _ (sym (c .before .before .before .before .before .before .before .before .before .before .before .before .before .before .before .before .before .checks .ensures) ∙ c .before .before .before .before .before .before .before .before .before .before .before .before .before .before .before .before .if1 .left) .sized in
     let e : c .before .before .before .before .before .before .before .before .before .before .before .decided .result ≡ decidedOf (a .tau) (a .config) (a .k .now) (a .w .now) (scaledOf (a .config .«max_weight_ratio») (a .weight .now)) =
-    c .before .before .before .before .before .before .before .before .before .before .before .decided .ensures ∙ ap (decidedOf (a .tau) (a .config) (a .k .now) (a .w .now)) (taken (a .config .«max_weight_ratio») (a .config) (a .k .now) (a .w .now) (a .weight .now) s (c .before .before .before .before .before .before .before .before .before .before .before .before .before .before .before .weights-of .result) (c .before .before .before .before .before .before .before .before .before .before .before .before .before .before .before .weights-of .ensures)) in
-    accepts _ _ _ (entry-none (a .tau) (a .config) (a .k .now) (a .w .now) (a .weight .now) _ _ (sym (c .before .before .before .before .before .before .before .before .before .before .before .before .before .before .before .before .before .checks .ensures) ∙ c .before .before .before .before .before .before .before .before .before .before .before .before .before .before .before .before .if1 .left) (sym (ok-is (a .config .«max_weight_ratio») (a .config) (a .k .now) (a .w .now) (a .weight .now) s (c .before .before .before .before .before .before .before .before .before .before .before .before .before .before .before .weights-of .result) (c .before .before .before .before .before .before .before .before .before .before .before .before .before .before .before .weights-of .ensures)) ∙ not-false _ (c .before .before .before .before .before .before .before .before .before .before .before .before .before .before .if2 .left))) e (c .before .before .before .before .before .before .before .before .before .before .if3 .left) (c .with-capped .ensures)
-    (cap-is (a .config .«max_weight_ratio») (a .config) (a .k .now) (a .w .now) (a .weight .now) s (c .before .before .before .before .before .before .before .before .before .before .before .before .before .before .before .weights-of .result) (c .before .before .before .before .before .before .before .before .before .before .before .before .before .before .before .weights-of .ensures)) (c .before .before .before .list-capped .ensures .0) (c .before .before .before .before .before .before .before .write-residuals .ensures) (c .before .before .before .list-capped .ensures .1)
+    c .before .before .before .before .before .before .before .before .before .before .before .decided .ensures ∙ ap (decidedOf (a .tau) (a .config) (a .k .now) (a .w .now)) (taken (a .config .«max_weight_ratio») (a .config) (a .k .now) (a .w .now) (a .weight .now) s _ _ (c .before .before .before .before .before .before .before .before .before .before .before .before .before .before .weights-of .ensures .1)) in
+    accepts _ _ _ (entry-none (a .tau) (a .config) (a .k .now) (a .w .now) (a .weight .now) _ _ (sym (c .before .before .before .before .before .before .before .before .before .before .before .before .before .before .before .before .before .checks .ensures) ∙ c .before .before .before .before .before .before .before .before .before .before .before .before .before .before .before .before .if1 .left) (sym (ok-is (a .config .«max_weight_ratio») (a .config) (a .k .now) (a .w .now) (a .weight .now) s (c .before .before .before .before .before .before .before .before .before .before .before .before .before .before .weights-of .result) (c .before .before .before .before .before .before .before .before .before .before .before .before .before .before .weights-of .ensures .0)) ∙ not-false _ (c .before .before .before .before .before .before .before .before .before .before .before .before .before .if2 .left))) e (c .before .before .before .before .before .before .before .before .before .before .if3 .left) (c .with-capped .ensures)
+    (cap-is (a .config .«max_weight_ratio») (a .config) (a .k .now) (a .w .now) (a .weight .now) s (c .before .before .before .before .before .before .before .before .before .before .before .before .before .before .weights-of .result) (c .before .before .before .before .before .before .before .before .before .before .before .before .before .before .weights-of .ensures .0)) (c .before .before .before .list-capped .ensures .0) (c .before .before .before .before .before .before .before .write-residuals .ensures) (c .before .before .before .list-capped .ensures .1)
 
 pub fit-slice-spec : {M : Type 1} → statement M
 fit-slice-spec =
@@ -103,7 +103,7 @@ fit-slice-spec =
     (λ c κs. tt)
     (λ c κs. tt)
     returns-2
-    array-share-prefix-weights
+    array-share-prefix-room
     slice-aggregate-decided
     decided-requires
     returns-3
