@@ -22,7 +22,7 @@ from support import FIT, ROOT, Case
 DATA = os.path.join(ROOT, "crates", "vectors", "data")
 MALFORMED = b"refused 43 0 0\n"
 LARGEST = 8300  # bytes of the largest well-formed file
-STACK = 256 << 10  # bytes of stack with which the program runs, what the system itself puts there included
+STACK = 96 << 10  # bytes of stack with which the program runs, what the system itself puts there included
 
 
 def stored(name):
