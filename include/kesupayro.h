@@ -31,7 +31,7 @@ extern "C" {
 
 /* This header's number. It changes with every layout or meaning that a caller could notice, and docs/ABI.md says what changed with each.
  * A program that was compiled with one header and linked with another library can tell: port_abi() is the library's number. */
-#define PORT_ABI 3
+#define PORT_ABI 4
 uint32_t port_abi(void);
 
 /* Bytes of stack that are enough for every call, counted from the caller's frame: what the deepest takes (docs/SPEED.md, 'Stack'), and a margin. The stack of a thread
@@ -165,9 +165,12 @@ typedef struct {
     PortTotalVariance total;
 } PortTotalAnswer;
 
-/* Before the first tau of a surface PORT_CONSTANT_VOL scales the first slice; every other policy refuses. */
+/* What stands before the first tau of a surface, on the morning of an expiry for one. PORT_REJECT refuses with 36, and nothing else does: a refusal there is for
+ * those who ask for it. PORT_CONSTANT_VOL answers with the first slice, scaled by tau over its tau; so does every number but 0. A field that was zeroed is
+ * PORT_REJECT; port_default_policy() is the choice for those who have none, PORT_CONSTANT_VOL. */
 #define PORT_REJECT 0
 #define PORT_CONSTANT_VOL 1
+uint32_t port_default_policy(void);
 
 /* The slices that answer at a tau: positions lo and hi with the weight x of hi; or `below`, the first alone. */
 typedef struct {

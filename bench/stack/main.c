@@ -98,6 +98,7 @@ static void fits_quotes(int down)
 }
 
 static void do_abi(void) { sink = port_abi(); }
+static void do_default_policy(void) { sink = port_default_policy(); }
 static void do_default_config(void) { sink = port_default_config().a_min; }
 static void do_fit_slice(void) { fits(0), fits(1); }
 static void do_fit_quotes(void) { fits_quotes(0), fits_quotes(1); }
@@ -191,7 +192,7 @@ static const struct {
 } calls[] = {
 #define CALL(name) {"port_" #name, do_##name}
     CALL(abi), CALL(default_config), CALL(fit_slice), CALL(fit_quotes), CALL(run),         CALL(k_range),  CALL(contains),    CALL(slice),        CALL(minimum),     CALL(lee_slope),    CALL(eval),
-    CALL(check_point),    CALL(total),     CALL(surface),     CALL(bracket),  CALL(region),      CALL(total_variance), CALL(covers_nodes), CALL(diagnose),
+    CALL(check_point),    CALL(total),     CALL(surface),     CALL(default_policy), CALL(bracket),  CALL(region),      CALL(total_variance), CALL(covers_nodes), CALL(diagnose),
     CALL(check_record),   CALL(check_clean), CALL(report_clean), CALL(solve), CALL(cell),        CALL(sqrt),         CALL(hypot),       CALL(ln),           CALL(exp),
 };
 

@@ -306,6 +306,10 @@ static void slices(void)
 
 static PortSviSlice run[40];
 
+/* Both policies by name, and numbers that name none. */
+static const uint32_t policies[] = {PORT_REJECT, PORT_CONSTANT_VOL, 2, UINT32_MAX};
+enum { POLICIES = sizeof policies / sizeof *policies };
+
 static void rising(void)
 {
     for (int i = 0; i < 40; i++)
@@ -322,8 +326,10 @@ static void surfaces(void)
         const PortSviSlice *s = reading(run, n * sizeof *run);
         EXPECT(port_surface(s, n) == want && safe());
         for (int j = 0; j < ODD; j++)
-            for (int o = 0; o < ODD; o++)
-                for (uint32_t policy = 0; policy < 3; policy++) {
+            for (int o = 0; o < ODD; o++) {
+                PortTotalAnswer named = {0};
+                for (int p = 0; p < POLICIES; p++) {
+                    uint32_t policy = policies[p];
                     s = reading(run, n * sizeof *run);
                     double k = odd[j], tau = odd[o];
                     uint32_t point = want ? want : port_check_point(k, tau);
@@ -331,12 +337,16 @@ static void surfaces(void)
                     PortRegionAnswer g = port_region(s, n, policy, k, tau);
                     PortTotalAnswer t = port_total_variance(s, n, policy, k, tau);
                     int good = point ? b.number == point && g.number == point && t.number == point : b.number == 0 || b.number == 36 || b.number == 37;
-                    good &= point || b.number != PORT_REFUSED_BEFORE_FIRST || (tau < 1 && policy != PORT_CONSTANT_VOL);
+                    good &= point || b.number != PORT_REFUSED_BEFORE_FIRST || (tau < 1 && policy == PORT_REJECT);
                     good &= b.number || b.below || (b.lo + 1 == b.hi && b.hi < n && b.x >= 0 && b.x <= 1);
                     good &= t.number || (t.total.w > 0 && isfinite(t.total.w));
+                    /* a number that names none is PORT_CONSTANT_VOL */
+                    good &= p < 2 || (t.number == named.number && same(t.total.w, named.total.w) && same(t.total.w_tau, named.total.w_tau));
+                    named = t;
                     if (!(good && safe()))
                         EXPECT(0);
                 }
+            }
     }
     /* damaged runs */
     for (int i = 0; i < 20000 / few; i++) {
@@ -374,7 +384,7 @@ static void axes(void)
                 const PortSviSlice *s = reading(run, 9 * sizeof *run);
                 const double *ks = reading(axis, 8 * nk), *ts = reading(axis, 8 * nt);
                 double *room = marked(8 * rooms);
-                PortDiagnosedAnswer d = port_diagnose(s, 9, 0, ks, nk, ts, nt, config, room, rooms);
+                PortDiagnosedAnswer d = port_diagnose(s, 9, PORT_REJECT, ks, nk, ts, nt, config, room, rooms);
                 uint32_t want = rooms < all ? PORT_REFUSED_LENGTHS : nk > 64 || nt > 64 ? PORT_REFUSED_SIZE : !nk ? PORT_REFUSED_K_AXIS : !nt ? PORT_REFUSED_TAU_AXIS : 0;
                 size_t wrote = d.number ? 0 : 3 * d.report.evaluation_failures;
                 EXPECT(d.number == want && still_marked(room + wrote, 8 * (rooms - wrote)));
@@ -394,11 +404,15 @@ static void axes(void)
         const PortSviSlice *s = reading(run, 3 * sizeof *run);
         const double *ks = reading(axis, 8 * n);
         double *room = marked(24 * n * n);
-        PortDiagnosedAnswer d = port_diagnose(s, 3, word() % 3, ks, n, ks, n, config, room, 3 * n * n);
+        uint32_t policy = policies[word() % POLICIES];
+        PortDiagnosedAnswer d = port_diagnose(s, 3, policy, ks, n, ks, n, config, room, 3 * n * n);
         uint32_t want = k_bad ? PORT_REFUSED_K_AXIS : t_bad ? PORT_REFUSED_TAU_AXIS : !tolerances ? PORT_REFUSED_TOLERANCE : 0;
         size_t wrote = d.number ? 0 : 3 * d.report.evaluation_failures;
         if (!(d.number == want && still_marked(room + wrote, 8 * (3 * n * n - wrote)) && safe()))
             EXPECT(0);
+        for (size_t x = 2; x < wrote; x += 3)
+            if (room[x] == PORT_REFUSED_BEFORE_FIRST && policy != PORT_REJECT)
+                EXPECT(0);
         PortCheck *check = buffer(sizeof *check), before = d.report.butterfly;
         *check = before;
         PortDiagnosticPoint p = {any(), any(), any()};
@@ -535,15 +549,15 @@ static void nulls(void)
     EXPECT(port_run(NULL, 0, out, sizeof out) == 15 && memcmp(out, "refused 43 0 0\n", 15) == 0 && port_run(NULL, 0, NULL, 0) == 15);
     EXPECT(port_fit_slice(0.5, c, NULL, 0, NULL, 0, NULL, 0, NULL, 0, NULL, 0).number == PORT_REFUSED_TOO_FEW);
     EXPECT(port_fit_quotes(0.5, c, NULL, 0, NULL, 0, NULL, 0).fit.number == PORT_REFUSED_TOO_FEW);
-    EXPECT(port_surface(NULL, 0) == PORT_REFUSED_TWO_SLICES && port_bracket(NULL, 0, 0, 0, 1).number == PORT_REFUSED_TWO_SLICES);
-    EXPECT(port_region(NULL, 0, 0, 0, 1).number == PORT_REFUSED_TWO_SLICES && port_total_variance(NULL, 0, 0, 0, 1).number == PORT_REFUSED_TWO_SLICES);
+    EXPECT(port_surface(NULL, 0) == PORT_REFUSED_TWO_SLICES && port_bracket(NULL, 0, PORT_REJECT, 0, 1).number == PORT_REFUSED_TWO_SLICES);
+    EXPECT(port_region(NULL, 0, PORT_REJECT, 0, 1).number == PORT_REFUSED_TWO_SLICES && port_total_variance(NULL, 0, PORT_REJECT, 0, 1).number == PORT_REFUSED_TWO_SLICES);
     EXPECT(port_covers_nodes(NULL, 0, NULL, 0, NULL, 0).number == PORT_REFUSED_TWO_SLICES);
-    EXPECT(port_diagnose(NULL, 0, 0, NULL, 0, NULL, 0, config, NULL, 0).number == PORT_REFUSED_TWO_SLICES);
+    EXPECT(port_diagnose(NULL, 0, PORT_REJECT, NULL, 0, NULL, 0, config, NULL, 0).number == PORT_REFUSED_TWO_SLICES);
     PortSviSlice two[2] = {{1, 0.25, 0.5, 0, 0, 3, {-1, 1}}, {2, 0.5, 0.5, 0, 0, 3, {-1, 1}}};
     double one = 1;
     EXPECT(port_covers_nodes(two, 2, NULL, 0, NULL, 0).number == PORT_REFUSED_K_AXIS && port_covers_nodes(two, 2, &one, 1, NULL, 0).number == PORT_REFUSED_TAU_AXIS);
-    EXPECT(port_diagnose(two, 2, 0, NULL, 0, NULL, 0, config, NULL, 0).number == PORT_REFUSED_K_AXIS);
-    EXPECT(port_diagnose(two, 2, 0, &one, 1, &one, 1, config, NULL, 0).number == PORT_REFUSED_LENGTHS);
+    EXPECT(port_diagnose(two, 2, PORT_REJECT, NULL, 0, NULL, 0, config, NULL, 0).number == PORT_REFUSED_K_AXIS);
+    EXPECT(port_diagnose(two, 2, PORT_REJECT, &one, 1, &one, 1, config, NULL, 0).number == PORT_REFUSED_LENGTHS);
     PortLimits limits = {0, 0, 0, 0};
     PortCell none = port_cell(NULL, 0, NULL, 0, NULL, 0, limits, 0, 1);
     EXPECT(none.faces == 64 && none.updates == 119); /* as the published Rust */

@@ -102,7 +102,6 @@ static void surfaces(void)
     EXPECT(port_bracket(s, 2, PORT_REJECT, 0, 2.5).number == PORT_REFUSED_BEYOND_LAST);
     b = port_bracket(s, 2, PORT_REJECT, 0, 0.5);
     EXPECT(b.number == PORT_REFUSED_BEFORE_FIRST && !b.below && b.lo == 0 && b.hi == 0 && b.x == 0);
-    EXPECT(port_bracket(s, 2, 7, 0, 0.5).number == PORT_REFUSED_BEFORE_FIRST);
     b = port_bracket(s, 2, PORT_CONSTANT_VOL, 0, 0.5);
     EXPECT(b.number == 0 && b.below);
     EXPECT(port_bracket(s, 2, PORT_REJECT, NAN, 1).number == PORT_REFUSED_POINT_K && port_bracket(s, 2, PORT_REJECT, 0, NAN).number == PORT_REFUSED_POINT_TAU);
@@ -126,6 +125,34 @@ static void surfaces(void)
 
     s[1].tau = 1;
     EXPECT(port_surface(s, 2) == PORT_REFUSED_TAU_ORDER && port_bracket(s, 2, PORT_REJECT, NAN, NAN).number == PORT_REFUSED_TAU_ORDER);
+}
+
+/* Before the first tau PORT_REJECT alone refuses; every other number, and so the default, is PORT_CONSTANT_VOL. */
+static void policies(void)
+{
+    static const uint32_t policies[] = {PORT_REJECT, PORT_CONSTANT_VOL, 2, 7, 256, 0x80000000u, UINT32_MAX};
+    PortSviSlice s[2] = {slice_at(1), slice_at(2)};
+    PortDiagnosticsConfig config = {1e-10, 1e-12};
+    double ks[1] = {0}, taus[2] = {0.5, 1};
+    s[1].a = 1.25;
+    for (size_t i = 0; i < sizeof policies / sizeof *policies; i++) {
+        uint32_t policy = policies[i], want = i == 0 ? PORT_REFUSED_BEFORE_FIRST : 0;
+        double room[6] = {-77, -77, -77, -77, -77, -77};
+        PortBracketAnswer b = port_bracket(s, 2, policy, 0, 0.5);
+        EXPECT(b.number == want && b.below == !want && b.lo == 0 && b.hi == 0 && b.x == 0);
+        PortRegionAnswer g = port_region(s, 2, policy, 0, 0.5);
+        EXPECT(g.number == want && !g.calibrated);
+        PortTotalAnswer t = port_total_variance(s, 2, policy, 0, 0.5);
+        EXPECT(t.number == want && t.total.w == (want ? 0 : 0.875) && t.total.w_tau == (want ? 0 : 1.75));
+        PortDiagnosedAnswer d = port_diagnose(s, 2, policy, ks, 1, taus, 2, config, room, 6);
+        EXPECT(d.number == 0 && d.report.evaluation_failures == (want ? 1 : 0) && d.report.calendar_gap.points == (want ? 0 : 1));
+        EXPECT(want ? room[0] == 0 && room[1] == 0.5 && room[2] == PORT_REFUSED_BEFORE_FIRST : room[0] == -77);
+        EXPECT(room[3] == -77);
+    }
+    EXPECT(port_default_policy() == PORT_CONSTANT_VOL);
+    /* a program that keeps its choice in a struct of its own, and zeroed that */
+    struct { uint32_t policy; } zeroed = {0};
+    EXPECT(port_bracket(s, 2, zeroed.policy, 0, 0.5).number == PORT_REFUSED_BEFORE_FIRST);
 }
 
 static void diagnostics(void)
@@ -256,6 +283,7 @@ static void all(void)
     slices();
     points();
     surfaces();
+    policies();
     diagnostics();
     updates();
     inside();

@@ -1,7 +1,8 @@
 //! Slices, surfaces and diagnostics of the Rust, asked with raw records: document 01's number, or the values.
 
 use crate::plain::diagnostics::{Check, DiagnosticGrid, DiagnosticPoint, DiagnosticsConfig, diagnose};
-use crate::plain::svi::{Bracket, KRange, Region, ShortExpiryPolicy, SviSlice, SviSurface};
+pub use crate::plain::svi::ShortExpiryPolicy;
+use crate::plain::svi::{Bracket, KRange, Region, SviSlice, SviSurface};
 use crate::plain::{TotalVariance, VolSurface, check_point};
 use crate::types::error::MMError;
 
@@ -80,17 +81,13 @@ pub fn total(v: [f64; 4]) -> Asked<[f64; 4]> {
     TotalVariance::new(v[0], v[1], v[2], v[3]).map(values).map_err(numbered)
 }
 
-fn policy(constant_vol: bool) -> ShortExpiryPolicy {
-    if constant_vol { ShortExpiryPolicy::ConstantVol } else { ShortExpiryPolicy::default() }
-}
-
 /// The surface of a run of records: over a size (11), the records in order (21 to 28), the count (32), the order of tau (33).
-pub fn surface(run: &[Raw], constant_vol: bool) -> Asked<SviSurface> {
+pub fn surface(run: &[Raw], policy: ShortExpiryPolicy) -> Asked<SviSurface> {
     if run.len() > 32 {
         return Err(11);
     }
     let slices = run.iter().map(slice).collect::<Asked<Vec<_>>>()?;
-    SviSurface::new(slices, policy(constant_vol)).map_err(numbered)
+    SviSurface::new(slices, policy).map_err(numbered)
 }
 
 /// The slices that answer: the first alone, or a segment and the weight of its later slice.
@@ -100,8 +97,8 @@ pub enum Place {
     Segment(usize, usize, f64),
 }
 
-pub fn bracket(run: &[Raw], constant_vol: bool, k: f64, tau: f64) -> Asked<Place> {
-    let s = surface(run, constant_vol)?;
+pub fn bracket(run: &[Raw], policy: ShortExpiryPolicy, k: f64, tau: f64) -> Asked<Place> {
+    let s = surface(run, policy)?;
     let at = |x: &SviSlice| s.slices().iter().position(|y| std::ptr::eq(x, y)).expect("a slice of the surface");
     Ok(match s.bracket(k, tau).map_err(numbered)? {
         Bracket::Short(_) => Place::Short,
@@ -110,13 +107,13 @@ pub fn bracket(run: &[Raw], constant_vol: bool, k: f64, tau: f64) -> Asked<Place
 }
 
 /// Whether the point is calibrated.
-pub fn region(run: &[Raw], constant_vol: bool, k: f64, tau: f64) -> Asked<bool> {
-    let s = surface(run, constant_vol)?;
+pub fn region(run: &[Raw], policy: ShortExpiryPolicy, k: f64, tau: f64) -> Asked<bool> {
+    let s = surface(run, policy)?;
     Ok(s.region(k, tau).map_err(numbered)? == Region::Calibrated)
 }
 
-pub fn total_variance(run: &[Raw], constant_vol: bool, k: f64, tau: f64) -> Asked<[f64; 4]> {
-    let s = surface(run, constant_vol)?;
+pub fn total_variance(run: &[Raw], policy: ShortExpiryPolicy, k: f64, tau: f64) -> Asked<[f64; 4]> {
+    let s = surface(run, policy)?;
     s.total_variance(k, tau).map(values).map_err(numbered)
 }
 
@@ -129,7 +126,7 @@ pub fn covers_nodes(run: &[Raw], ks: &[f64], taus: &[f64]) -> Asked<bool> {
     if run.len() > 32 || ks.len() > 64 || taus.len() > 64 {
         return Err(11);
     }
-    let s = surface(run, false)?;
+    let s = surface(run, ShortExpiryPolicy::Reject)?;
     Ok(s.covers_nodes(&grid(ks, taus)?))
 }
 
@@ -173,14 +170,14 @@ pub struct Report {
 }
 
 /// `room` is the number of floats lent, three for each grid point.
-pub fn diagnosed(run: &[Raw], constant_vol: bool, ks: &[f64], taus: &[f64], tolerances: [f64; 2], room: usize) -> Asked<Report> {
+pub fn diagnosed(run: &[Raw], policy: ShortExpiryPolicy, ks: &[f64], taus: &[f64], tolerances: [f64; 2], room: usize) -> Asked<Report> {
     if room < 3 * ks.len() * taus.len() {
         return Err(12);
     }
     if run.len() > 32 || ks.len() > 64 || taus.len() > 64 {
         return Err(11);
     }
-    let s = surface(run, constant_vol)?;
+    let s = surface(run, policy)?;
     let grid = grid(ks, taus)?;
     let config = DiagnosticsConfig { butterfly_tolerance: tolerances[0], calendar_tolerance: tolerances[1] };
     let d = diagnose(&s, &grid, config).map_err(numbered)?;

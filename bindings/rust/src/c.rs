@@ -65,6 +65,7 @@ extern "C" {
     fn port_check_point(k: f64, tau: f64) -> u32;
     fn port_raw_total(w: f64, w_k: f64, w_kk: f64, w_tau: f64, total: &mut [f64; 4]) -> u32;
     fn port_surface(slices: *const SviSlice, count: usize) -> u32;
+    fn port_default_policy() -> u32;
     fn port_raw_bracket(slices: *const SviSlice, count: usize, policy: u32, k: f64, tau: f64, places: &mut [usize; 3], x: &mut [f64; 1]) -> u32;
     fn port_raw_region(slices: *const SviSlice, count: usize, policy: u32, k: f64, tau: f64, calibrated: &mut [usize; 1]) -> u32;
     fn port_raw_total_variance(slices: *const SviSlice, count: usize, policy: u32, k: f64, tau: f64, total: &mut [f64; 4]) -> u32;
@@ -116,7 +117,7 @@ extern "C" {
 const _: () = assert!(std::mem::size_of::<SviSlice>() == 64 && std::mem::size_of::<Check>() == 48);
 
 /// The ABI number that this crate was written for.
-pub const ABI: u32 = 3;
+pub const ABI: u32 = 4;
 
 /// The ABI number of the library.
 #[inline]
@@ -330,7 +331,21 @@ pub fn surface(slices: &[SviSlice]) -> u32 {
     unsafe { port_surface(slices.as_ptr(), slices.len()) }
 }
 
-/// The slices that answer at tau. `policy`: 1 scales the first slice before its tau, every other number refuses. `places`: below (1 or 0), lo, hi.
+/// The policy that refuses before the first tau of a surface.
+pub const REJECT: u32 = 0;
+
+/// The policy that scales the first slice there; every number but [`REJECT`] does.
+pub const CONSTANT_VOL: u32 = 1;
+
+/// The policy for those who have no choice of their own: [`CONSTANT_VOL`].
+#[inline]
+pub fn default_policy() -> u32 {
+    same_abi();
+    // SAFETY: no argument.
+    unsafe { port_default_policy() }
+}
+
+/// The slices that answer at tau. `policy`: [`REJECT`] refuses before the first tau, every other number is [`CONSTANT_VOL`]. `places`: below (1 or 0), lo, hi.
 #[inline]
 pub fn bracket(slices: &[SviSlice], policy: u32, k: f64, tau: f64, places: &mut [usize; 3], x: &mut [f64; 1]) -> u32 {
     same_abi();

@@ -139,13 +139,36 @@ pub fn check_point(k: f64, tau: f64) -> Result<(), Refusal> {
 }
 
 /// What stands before the first expiry.
-#[derive(Debug, Clone, Copy, PartialEq, Eq, Default)]
+#[derive(Debug, Clone, Copy, PartialEq, Eq)]
 pub enum Policy {
-    /// Nothing: refused as 36.
-    #[default]
+    /// Nothing: refused as 36. Only who names this policy is refused so.
     Reject,
     /// The first slice, scaled by tau over its tau.
     ConstantVol,
+}
+
+impl Policy {
+    fn number(self) -> u32 {
+        match self {
+            Self::Reject => c::REJECT,
+            Self::ConstantVol => c::CONSTANT_VOL,
+        }
+    }
+
+    fn of_number(number: u32) -> Self {
+        if number == c::REJECT {
+            Self::Reject
+        } else {
+            Self::ConstantVol
+        }
+    }
+}
+
+impl Default for Policy {
+    /// The library's, which is [`Policy::ConstantVol`].
+    fn default() -> Self {
+        Self::of_number(c::default_policy())
+    }
 }
 
 /// The slices that answer at a tau.
@@ -181,31 +204,24 @@ impl<'a> Surface<'a> {
         answered(c::surface(slices), Self { slices, policy })
     }
 
-    fn policy(&self) -> u32 {
-        match self.policy {
-            Policy::Reject => 0,
-            Policy::ConstantVol => 1,
-        }
-    }
-
     /// Which slices answer at tau.
     pub fn bracket(&self, k: f64, tau: f64) -> Result<Bracket, Refusal> {
         let (mut places, mut x) = ([0; 3], [0.0]);
-        let number = c::bracket(self.slices, self.policy(), k, tau, &mut places, &mut x);
+        let number = c::bracket(self.slices, self.policy.number(), k, tau, &mut places, &mut x);
         answered(number, Bracket::of_rows(places, x))
     }
 
     /// Whether the point is between two slices whose k ranges both hold k.
     pub fn calibrated(&self, k: f64, tau: f64) -> Result<bool, Refusal> {
         let mut calibrated = [0];
-        let number = c::region(self.slices, self.policy(), k, tau, &mut calibrated);
+        let number = c::region(self.slices, self.policy.number(), k, tau, &mut calibrated);
         answered(number, calibrated[0] != 0)
     }
 
     /// Total variance at a point.
     pub fn total_variance(&self, k: f64, tau: f64) -> Result<TotalVariance, Refusal> {
         let mut total = [0.0; 4];
-        let number = c::total_variance(self.slices, self.policy(), k, tau, &mut total);
+        let number = c::total_variance(self.slices, self.policy.number(), k, tau, &mut total);
         answered(number, TotalVariance::of_row(total))
     }
 
@@ -221,7 +237,7 @@ impl<'a> Surface<'a> {
     pub fn diagnose(&self, ks: &[f64], taus: &[f64], config: DiagnosticsConfig, room: &mut [f64]) -> Result<SurfaceDiagnostics, Refusal> {
         let (mut counts, mut worst) = ([0; 10], [0.0; 9]);
         let DiagnosticsConfig { butterfly_tolerance, calendar_tolerance } = config;
-        let number = c::diagnose(self.slices, self.policy(), ks, taus, butterfly_tolerance, calendar_tolerance, room, &mut counts, &mut worst);
+        let number = c::diagnose(self.slices, self.policy.number(), ks, taus, butterfly_tolerance, calendar_tolerance, room, &mut counts, &mut worst);
         answered(number, SurfaceDiagnostics::of_rows(counts, worst))
     }
 }

@@ -206,7 +206,7 @@ fn elementary_functions() {
 
 #[test]
 fn the_abi_number() {
-    assert_eq!((abi(), ABI), (3, 3));
+    assert_eq!((abi(), ABI), (4, 4));
 }
 
 #[test]
@@ -216,4 +216,5 @@ fn the_numbers_of_the_header() {
         header.lines().find_map(|line| line.strip_prefix("#define ")?.strip_prefix(name)?.parse::<usize>().ok()).unwrap()
     };
     assert_eq!((number("PORT_ABI "), number("PORT_MOST_ANSWER "), number("PORT_STACK ")), (ABI as usize, raw::MOST_ANSWER, raw::STACK));
+    assert_eq!((number("PORT_REJECT "), number("PORT_CONSTANT_VOL ")), (c::REJECT as usize, c::CONSTANT_VOL as usize));
 }

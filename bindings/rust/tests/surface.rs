@@ -1,7 +1,7 @@
 //! Slices, surfaces and diagnostics through the safe functions.
 
 use kesupayro::surface::{check_point, Bracket, Check, DiagnosticPoint, DiagnosticsConfig, Policy, Refusal, Surface, TotalVariance};
-use kesupayro::{raw, KRange, SviSlice};
+use kesupayro::{c, raw, KRange, SviSlice};
 
 /// The worked example: w is 1.75 at 0 and 2.75 at 4.
 fn slice(tau: f64, a: f64) -> SviSlice {
@@ -38,6 +38,36 @@ fn a_surface() {
     assert!(matches!(Surface::new(&slices[..1], Policy::Reject), Err(Refusal(32))));
     assert!(matches!(Surface::new(&[slices[0]; 2], Policy::Reject), Err(Refusal(33))));
     assert!(matches!(Surface::new(&[slices[0]; 33], Policy::Reject), Err(Refusal(11))));
+}
+
+/// Before the first tau: whether it is refused with 36, and the number of failures on a grid of three points there and three on the first tau.
+fn before_the_first(slices: &[SviSlice], policy: u32) -> (bool, usize) {
+    let (mut places, mut x, mut calibrated, mut total) = ([7; 3], [7.0], [7], [7.0; 4]);
+    let numbers = [
+        c::bracket(slices, policy, 0.0, 0.5, &mut places, &mut x),
+        c::region(slices, policy, 0.0, 0.5, &mut calibrated),
+        c::total_variance(slices, policy, 0.0, 0.5, &mut total),
+    ];
+    assert!(numbers == [36; 3] || numbers == [0; 3]);
+    let refused = numbers[0] == 36;
+    assert_eq!((places, calibrated, total[0]), if refused { ([0; 3], [0], 0.0) } else { ([1, 0, 0], [0], 0.875) });
+    let (mut room, mut counts, mut worst) = ([-77.0; 18], [7; 10], [7.0; 9]);
+    assert_eq!(c::diagnose(slices, policy, &[-1.0, 0.0, 1.0], &[0.5, 1.0], 1e-10, 1e-12, &mut room, &mut counts, &mut worst), 0);
+    let failures: Vec<f64> = [-1.0, 0.0, 1.0].iter().flat_map(|k| [*k, 0.5, 36.0]).take(3 * counts[9]).collect();
+    assert!(room.starts_with(&failures) && room[failures.len()..].iter().all(|x| *x == -77.0));
+    (refused, counts[9])
+}
+
+#[test]
+fn only_reject_by_its_name_refuses() {
+    let slices = [slice(1.0, 0.25), slice(2.0, 1.25)];
+    assert_eq!(before_the_first(&slices, c::REJECT), (true, 3));
+    for policy in [c::CONSTANT_VOL, c::default_policy(), 2, 7, 256, 1 << 31, u32::MAX] {
+        assert_eq!(before_the_first(&slices, policy), (false, 0), "{policy}");
+    }
+    assert_eq!((c::default_policy(), Policy::default()), (c::CONSTANT_VOL, Policy::ConstantVol));
+    let s = Surface::new(&slices, Policy::default()).unwrap();
+    assert_eq!((s.bracket(0.0, 0.5), s.total_variance(0.0, 0.5).map(|t| t.w)), (Ok(Bracket::Short), Ok(0.875)));
 }
 
 #[test]

@@ -3,4 +3,4 @@ use Prim.Native.Nat.{ℕ}
 
 -- changes with every layout or meaning that a caller could notice: docs/ABI.md
 abbrev pub abiNumber : ℕ
-abiNumber = 3
+abiNumber = 4

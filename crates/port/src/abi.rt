@@ -6,5 +6,5 @@ ghost use Rattle.port.specs.Abi.{abiNumber};
 pub extern "C" fn port_abi() -> u32
     ensures { λ r. ⌜ r ≡ abiNumber ⌝ }
 {
-    3
+    4
 }

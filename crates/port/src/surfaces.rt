@@ -1,17 +1,19 @@
-// Points, surfaces and their diagnostics, for callers outside. A policy is a number: 1 for ConstantVol, every other for Reject.
+// Points, surfaces and their diagnostics, for callers outside. A policy is a number: 0 for Reject, every other for ConstantVol.
 ghost use mathlib.Core.Path.{_≡_};
 ghost use mathlib.Core.List.{[], _∷_};
 ghost use Rattle.point.specs.Point.{pointNumber, totalOf};
+ghost use Rattle.surface.specs.Lookup.{defaultPolicy};
 ghost use Rattle.surface.specs.Runs.{runOf, checkRun};
 ghost use Rattle.diagnostics.specs.Tally.{pointAt, recordedOf, isClean};
 ghost use Rattle.diagnostics.specs.Diagnostics.{reportClean};
-ghost use Rattle.rows.specs.Answers.{totalAnswer, bracketFor, regionFor, totalFor, coversFor, diagnosedFor, roomFor, totalRow, placesRow, diagnosedCounts, diagnosedWorst, checkAt, reportAt};
+ghost use Rattle.rows.specs.Answers.{policyNumber, totalAnswer, bracketFor, regionFor, totalFor, coversFor, diagnosedFor, roomFor, totalRow, placesRow, diagnosedCounts, diagnosedWorst, checkAt, reportAt};
 ghost use Rattle.rows.specs.Flag.{flag};
 use diagnostics::report::SurfaceDiagnostics;
 use diagnostics::tally::Check;
 use diagnostics::tally::DiagnosticPoint;
 use point::TotalVariance;
 use slice::SviSlice;
+use surface::types::ShortExpiryPolicy;
 
 // ---- one point
 
@@ -36,6 +38,14 @@ pub extern "C" fn port_raw_total(
 }
 
 // ---- a lent run of slices
+
+// The policy for a caller who has no wish of his own.
+#[no_mangle]
+pub extern "C" fn port_default_policy() -> u32
+    ensures { λ r. ⌜ r ≡ policyNumber defaultPolicy ⌝ }
+{
+    rows::answers::policy_number(ShortExpiryPolicy::default())
+}
 
 #[no_mangle]
 pub extern "C" fn port_surface(slices: &[SviSlice]) -> u32

@@ -1,3 +1,4 @@
--- What the function proofs share; and that rows read back.
+-- What the function proofs share; that rows read back, and policies by their numbers.
 pub mod Told
 pub mod RowsReadBack
+pub mod PolicyNumbers

@@ -32,9 +32,16 @@ use Rattle.rows.specs.declared.answers.RegionAnswer.{RegionAnswer}
 use Rattle.rows.specs.declared.answers.CoversAnswer.{CoversAnswer}
 use Rattle.rows.specs.declared.answers.DiagnosedAnswer.{DiagnosedAnswer}
 
--- 1 is ConstantVol; 0 and every other number is Reject, the default
+-- ---- a policy as a number
+
+-- 0 names Reject; every other number is ConstantVol
 unfoldable pub policyOf : ℕ → ShortExpiryPolicy
-policyOf n = cond (eqb n 1) ConstantVol Reject
+policyOf n = cond (eqb n 0) Reject ConstantVol
+
+-- the number that names a policy
+abbrev pub policyNumber : ShortExpiryPolicy → ℕ
+policyNumber Reject = 0
+policyNumber ConstantVol = 1
 
 -- ---- one point
 

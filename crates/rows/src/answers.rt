@@ -1,7 +1,7 @@
 // The answers about points and surfaces as records, and as the rows of numbers that leave the library: the number of a refusal, or 0, and the values. A refusal carries zeros.
 ghost use mathlib.Core.Path.{_≡_};
 ghost use mathlib.Core.List.{[], _∷_};
-ghost use Rattle.rows.specs.Answers.{policyOf, totalAnswer, bracketAnswer, regionAnswer, coversAnswer, noDiagnostics, diagnosedAnswer, bracketFor, regionFor, totalFor, coversFor, diagnosedFor, roomFor, totalRow, placesRow, diagnosedCounts, diagnosedWorst, checkOf, checkAt, reportAt};
+ghost use Rattle.rows.specs.Answers.{policyOf, policyNumber, totalAnswer, bracketAnswer, regionAnswer, coversAnswer, noDiagnostics, diagnosedAnswer, bracketFor, regionFor, totalFor, coversFor, diagnosedFor, roomFor, totalRow, placesRow, diagnosedCounts, diagnosedWorst, checkOf, checkAt, reportAt};
 ghost use Rattle.rows.specs.Flag.{flag};
 use diagnostics::report::Diagnosed;
 use diagnostics::report::DiagnosticsConfig;
@@ -46,14 +46,25 @@ pub struct DiagnosedAnswer {
     pub report: SurfaceDiagnostics,
 }
 
-// 1 is ConstantVol; every other number is the default, Reject.
+// ---- a policy as a number
+
+// A refusal is for callers who name it: 0 is Reject, every other number is ConstantVol.
 fn policy_of(policy: u32) -> ShortExpiryPolicy
     ensures { λ r. ⌜ r ≡ policyOf policy ⌝ }
 {
-    if policy == 1 {
-        return ShortExpiryPolicy::ConstantVol;
+    if policy == 0 {
+        return ShortExpiryPolicy::Reject;
     }
-    ShortExpiryPolicy::Reject
+    ShortExpiryPolicy::ConstantVol
+}
+
+pub fn policy_number(policy: ShortExpiryPolicy) -> u32
+    ensures { λ r. ⌜ r ≡ policyNumber policy ⌝ }
+{
+    match policy {
+        ShortExpiryPolicy::Reject => 0,
+        ShortExpiryPolicy::ConstantVol => 1,
+    }
 }
 
 // ---- one record for each enum

@@ -88,4 +88,4 @@ bracketOf taus tols n policy k tau =
 
 -- the policy of a caller who names none
 abbrev pub defaultPolicy : ShortExpiryPolicy
-defaultPolicy = Reject
+defaultPolicy = ConstantVol

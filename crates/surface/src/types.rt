@@ -19,7 +19,7 @@ impl ShortExpiryPolicy {
     pub fn default() -> ShortExpiryPolicy
         ensures { λ r. ⌜ r ≡ defaultPolicy ⌝ }
     {
-        ShortExpiryPolicy::Reject
+        ShortExpiryPolicy::ConstantVol
     }
 }
 

@@ -13,29 +13,25 @@ use lib.Ieee.{Float, nan, inf, fin, binary64, unlike, neg, mul, sub, lt, le, ne,
 use lib.Ieee.Positive.{num, den, positive, den-pos, own-value, le→cross}
 use borrow.Author.Tests.{le-ltb, ltb-true, ltb-false}
 use Rattle.laws.specs.Floats.{_-f_, _*f_, +0, quarter, at, finite, minOf}
-use Rattle.laws.specs.Loop.{search-on, first}
+use Rattle.laws.specs.Loop.{search-on}
 use Rattle.laws.proofs.Choices.{cond-ind, cond-test, if-false, both, passed-one, number-goes}
 use Rattle.laws.proofs.Floats.{self-same}
 use Rattle.laws.proofs.Ops.{apply, neg-value, mul-value, add-value}
 use Rattle.laws.proofs.Order.{lt-le-trans, lt-not-self, lt→le, le-self}
 use Rattle.laws.proofs.Signs.{Signed, signed-no-nan, round-signed, mul-signed}
-use Rattle.slice.specs.declared.SviSlice.{SviSlice}
-use Rattle.slice.specs.declared.Evaluated.{Evaluated}
-use Rattle.slice.specs.declared.Evaluated.the-variants as evaluated
-use Rattle.slice.specs.Slice.{threeFinite, valuesOf, judgedOf, evalRaw}
 use Rattle.point.specs.declared.Total.the-variants as total
-use Rattle.point.specs.declared.TotalVariance.{TotalVariance}
-use Rattle.point.specs.Point.{pointNumber, totalNumber, totalOf}
+use Rattle.point.specs.Point.{pointNumber}
 use Rattle.surface.specs.declared.types.Run.{Run}
 use Rattle.surface.specs.declared.types.ShortExpiryPolicy.{ShortExpiryPolicy}
 use Rattle.surface.specs.declared.types.ShortExpiryPolicy.the-variants.{Reject, ConstantVol}
 use Rattle.surface.specs.declared.types.Bracket.{Bracket}
-use Rattle.surface.specs.declared.types.Bracket.the-variants.{Segment, Short, Refused}
+use Rattle.surface.specs.declared.types.Bracket.the-variants.{Segment, Refused}
 use Rattle.surface.specs.declared.types.Region.the-variants as region
 use Rattle.surface.specs.Runs.{sliceAt, tausOf, checkRun}
 use Rattle.surface.specs.Lookup.{nodeTolerance, beforeOf, afterOf, toleranceOf, nearOf, nearAt, nodeOf, beyondAt, beyondOf, onNode, shortOf, insideOf, lookupOf, bracketOf}
-use Rattle.surface.specs.Surface.{bothHold, regionBy, regionIn, mixedOf, shortScaled, blendOf, shortIn, segmentOf, shortFrom, varianceIn, varianceAt, tolsOf, bracketIn, bracketRun, regionRun, totalRun}
+use Rattle.surface.specs.Surface.{regionIn, varianceIn, varianceAt, tolsOf, bracketIn, bracketRun, regionRun, totalRun}
 use Rattle.surface.specs.Last.{lastTolerance, BeyondLast, TausFit}
+use Rattle.theorems.proofs.LookupNumbers.{Valued, region-from, variance-from}
 use Rattle.theorems.proofs.Spans.{from-true, to-false, positive-no-nan, not-below, positive-of, gap-units, quarter-signed, out-of-reach, within-any}
 use Rattle.theorems.proofs.ValidRun.{tau-positive, Valid, valid-run}
 
@@ -77,50 +73,8 @@ none-beyond : (b : Bool) (lo hi : ℕ) (x : Float) → cond b (Segment lo hi x) 
 none-beyond true lo hi x e = let z : _≡_ {A = ℕ} 0 1 = cc in absurd (omega arith)
 none-beyond false lo hi x e = refl
 
--- an evaluation refuses with 29 to 31, a total variance with 38 or 39
-eval-no : (s : SviSlice) (k : Float) → evalRaw s k ≡ evaluated.Refused 37 → ⊥
-unfolding evalRaw judgedOf
-eval-no s k =
-    cond-ind No (finite k)
-    (cond-ind No (threeFinite (valuesOf s k .w) (valuesOf s k .«w_k») (valuesOf s k .«w_kk»))
-    (cond-ind No (lt +0 (s .b) && le (valuesOf s k .«w_kk») +0) (λ e. let z : _≡_ {A = ℕ} 31 37 = cc in omega (arith, z)) (λ e. let z : _≡_ {A = ℕ} 0 1 = cc in omega arith))
-    (λ e. let z : _≡_ {A = ℕ} 30 37 = cc in omega (arith, z)))
-    (λ e. let z : _≡_ {A = ℕ} 29 37 = cc in omega (arith, z))
-  where
-    No : Evaluated → Type 0
-    No r = r ≡ evaluated.Refused 37 → ⊥
-
-number-no : (v : TotalVariance) → totalNumber v ≡ 37 → ⊥
-unfolding totalNumber
-number-no v =
-    cond-ind No (finite (v .w) && lt +0 (v .w))
-    (cond-ind No ((finite (v .«w_k») && finite (v .«w_kk»)) && finite (v .«w_tau»)) (λ e. omega (arith, e)) (λ e. omega (arith, e)))
-    (λ e. omega (arith, e))
-  where
-    No : ℕ → Type 0
-    No n = n ≡ 37 → ⊥
-
-total-no : (w wk wkk wtau : Float) → totalOf w wk wkk wtau ≡ total.Refused 37 → ⊥
-unfolding totalOf
-total-no w wk wkk wtau = go (eqb (totalNumber v) 0) (totalNumber v) (number-no v)
-  where
-    v : TotalVariance
-    v = record { w = w; «w_k» = wk; «w_kk» = wkk; «w_tau» = wtau }
-
-    go : (b : Bool) (n : ℕ) → (n ≡ 37 → ⊥) → cond b (total.At v) (total.Refused n) ≡ total.Refused 37 → ⊥
-    go true n f e = let z : _≡_ {A = ℕ} 0 1 = cc in omega arith
-    go false n f e = f (let z : n ≡ 37 = cc in z)
-
-blend-no : (l h : Evaluated) (x gap : Float) → (l ≡ evaluated.Refused 37 → ⊥) → (h ≡ evaluated.Refused 37 → ⊥) → blendOf l h x gap ≡ total.Refused 37 → ⊥
-unfolding mixedOf
-blend-no (evaluated.Refused m) h x gap p q e = p (let z : m ≡ 37 = cc in ap evaluated.Refused z)
-blend-no (evaluated.At l) (evaluated.Refused m) x gap p q e = q (let z : m ≡ 37 = cc in ap evaluated.Refused z)
-blend-no (evaluated.At l) (evaluated.At h) x gap p q e = total-no _ _ _ _ e
-
-scaled-no : (r : Evaluated) (tau first : Float) → (r ≡ evaluated.Refused 37 → ⊥) → shortIn r tau first ≡ total.Refused 37 → ⊥
-unfolding shortScaled
-scaled-no (evaluated.Refused m) tau first p e = p (let z : m ≡ 37 = cc in ap evaluated.Refused z)
-scaled-no (evaluated.At v) tau first p e = total-no _ _ _ _ e
+not-valued : Valued 37 → ⊥
+not-valued v = ⊎-elim (λ (l : 37 ≤ 31). omega (arith, l)) (λ (p : (38 ≤ 37) × (37 ≤ 39)). let l = p .0 in omega (arith, l)) v
 
 -- ---- tolerances
 
@@ -302,15 +256,6 @@ module _ (run : Run) (valid : checkRun run ≡ 0) (k tau : Float) (point : point
 
     -- ---- the region and the total variance hand it on
 
-    region-of : (b : Bracket) → regionIn (run .recs) b k ≡ region.Refused 37 → b ≡ Refused 37
-    region-of (Segment lo hi x) e = absurd (never (bothHold (sliceAt (run .recs) lo) (sliceAt (run .recs) hi) k) e)
-      where
-        never : (b : Bool) → regionBy b ≡ region.Refused 37 → ⊥
-        never true e = let z : _≡_ {A = ℕ} 0 1 = cc in omega arith
-        never false e = let z : _≡_ {A = ℕ} 0 1 = cc in omega arith
-    region-of Short e = let z : _≡_ {A = ℕ} 0 1 = cc in absurd (omega arith)
-    region-of (Refused m) e = let z : m ≡ 37 = cc in ap Refused z
-
     region-is : regionRun run policy k tau ≡ regionIn (run .recs) (bracketIn run policy k tau) k
     unfolding regionRun
     region-is = sym (number-goes _ refl valid refl)
@@ -318,15 +263,9 @@ module _ (run : Run) (valid : checkRun run ≡ 0) (k tau : Float) (point : point
     -- 37 of `region`
     pub region-37 : TausFit run → (regionRun run policy k tau ≡ region.Refused 37) ↔ BeyondLast run tau
     region-37 fit = (
-      λ e. bracket-37 fit .0 (bracket-is ∙ region-of (bracketIn run policy k tau) (sym region-is ∙ e)),
+      λ e. bracket-37 fit .0 (bracket-is ∙ region-from (run .recs) (bracketIn run policy k tau) k 37 (sym region-is ∙ e)),
       λ far. region-is ∙ ap (λ (b : Bracket). regionIn (run .recs) b k) (sym bracket-is ∙ bracket-37 fit .1 far),
     )
-
-    total-of : (b : Bracket) → varianceIn (run .recs) b k tau ≡ total.Refused 37 → b ≡ Refused 37
-    unfolding segmentOf shortFrom
-    total-of (Segment lo hi x) e = absurd (blend-no (evalRaw (sliceAt (run .recs) lo) k) (evalRaw (sliceAt (run .recs) hi) k) x _ (eval-no (sliceAt (run .recs) lo) k) (eval-no (sliceAt (run .recs) hi) k) e)
-    total-of Short e = absurd (scaled-no (evalRaw (sliceAt (run .recs) 0) k) tau _ (eval-no (sliceAt (run .recs) 0) k) e)
-    total-of (Refused m) e = let z : m ≡ 37 = cc in ap Refused z
 
     total-is : totalRun run policy k tau ≡ varianceIn (run .recs) (bracketIn run policy k tau) k tau
     unfolding totalRun varianceAt bracketIn
@@ -335,6 +274,6 @@ module _ (run : Run) (valid : checkRun run ≡ 0) (k tau : Float) (point : point
     -- 37 of `total_variance`
     pub total-37 : TausFit run → (totalRun run policy k tau ≡ total.Refused 37) ↔ BeyondLast run tau
     total-37 fit = (
-      λ e. bracket-37 fit .0 (bracket-is ∙ total-of (bracketIn run policy k tau) (sym total-is ∙ e)),
+      λ e. bracket-37 fit .0 (bracket-is ∙ ⊎-elim (λ (b : bracketIn run policy k tau ≡ Refused 37). b) (λ (v : Valued 37). absurd (not-valued v)) (variance-from (run .recs) (bracketIn run policy k tau) k tau 37 (sym total-is ∙ e))),
       λ far. total-is ∙ ap (λ (b : Bracket). varianceIn (run .recs) b k tau) (sym bracket-is ∙ bracket-37 fit .1 far),
     )

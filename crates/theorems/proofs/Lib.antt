@@ -1,7 +1,10 @@
--- A surface beyond its last node: 37.
+-- A surface beyond its last node: 37; before its first: 36, and what the policy changes there.
+pub mod LookupNumbers
 pub mod Spans
 pub mod ValidRun
 pub mod BeyondLast
+pub mod RejectNamed
+pub mod EitherPolicy
 -- The search: no better face, and windows within the domain.
 pub mod Least
 pub mod Chosen

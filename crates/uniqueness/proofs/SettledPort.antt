@@ -13,7 +13,7 @@ use Rattle.port.specs.FitRows.{FittedRows, QuotesRows}
 use Rattle.records.specs.Settings.{defaultsOf}
 use Rattle.roots.specs.Hypot.{hypotOf}
 use Rattle.roots.specs.Root.{rootOf}
-use Rattle.rows.specs.Answers.{bracketFor, checkAt, coversFor, diagnosedCounts, diagnosedFor, diagnosedWorst, placesRow, regionFor, reportAt, roomFor, totalAnswer, totalFor, totalRow}
+use Rattle.rows.specs.Answers.{bracketFor, checkAt, coversFor, diagnosedCounts, diagnosedFor, diagnosedWorst, placesRow, policyNumber, regionFor, reportAt, roomFor, totalAnswer, totalFor, totalRow}
 use Rattle.rows.specs.Flag.{flag}
 use Rattle.rows.specs.Rows.{cellCounts, cellValues, rangeRow, readLimits, readRange, readSlice, realsRow, sizesRow, sliceRow, valuesRow}
 use Rattle.rows.specs.Slices.{levelAnswer, rangeAnswer, sliceAnswer, valuesAnswer}
@@ -21,6 +21,7 @@ use Rattle.run.specs.Answer.{answerOf}
 use Rattle.slice.specs.Slice.{evalOf, holdsK, leeSlopeOf, madeOf, minimumOf, rangedOf}
 use Rattle.slice.specs.declared.SviSlice.{SviSlice}
 use Rattle.solver.specs.Solve.{solveOf}
+use Rattle.surface.specs.Lookup.{defaultPolicy}
 use Rattle.surface.specs.Runs.{checkRun, runOf}
 use Rattle.text.specs.Place.{longest, placed}
 use lib.Ieee.{Float}
@@ -104,6 +105,10 @@ port-check-point k tau h₁ h₂ = settled h₁ h₂
 -- port::port_raw_total
 pub port-raw-total : (w : Float) («w_k» : Float) («w_kk» : Float) («w_tau» : Float) (total : List Float) {r₁ r₂ : ℕ} {total-exit₁ total-exit₂ : List Float} → ((r₁ ≡ totalAnswer (totalOf w «w_k» «w_kk» «w_tau») .number) × (total-exit₁ ≡ totalRow (totalAnswer (totalOf w «w_k» «w_kk» «w_tau»)))) → ((r₂ ≡ totalAnswer (totalOf w «w_k» «w_kk» «w_tau») .number) × (total-exit₂ ≡ totalRow (totalAnswer (totalOf w «w_k» «w_kk» «w_tau»)))) → (r₁ ≡ r₂) × (total-exit₁ ≡ total-exit₂)
 port-raw-total w «w_k» «w_kk» «w_tau» total {r₁} {r₂} {total-exit₁} {total-exit₂} h₁ h₂ = (cc, cc)
+
+-- port::port_default_policy
+pub port-default-policy : {r₁ r₂ : ℕ} → (r₁ ≡ policyNumber defaultPolicy) → (r₂ ≡ policyNumber defaultPolicy) → r₁ ≡ r₂
+port-default-policy h₁ h₂ = settled h₁ h₂
 
 -- port::port_surface
 pub port-surface : (slices : List SviSlice) {r₁ r₂ : ℕ} → (r₁ ≡ checkRun (runOf slices)) → (r₂ ≡ checkRun (runOf slices)) → r₁ ≡ r₂

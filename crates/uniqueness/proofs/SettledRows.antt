@@ -7,7 +7,7 @@ use Rattle.laws.proofs.Choices.{settled}
 use Rattle.point.specs.declared.Total.{Total}
 use Rattle.records.specs.declared.FitAnswer.{FitAnswer}
 use Rattle.records.specs.declared.FitConfig.{FitConfig}
-use Rattle.rows.specs.Answers.{bracketFor, checkAt, coversFor, diagnosedCounts, diagnosedFor, diagnosedWorst, placesRow, regionFor, reportAt, roomFor, totalAnswer, totalFor, totalRow}
+use Rattle.rows.specs.Answers.{bracketFor, checkAt, coversFor, diagnosedCounts, diagnosedFor, diagnosedWorst, placesRow, policyNumber, regionFor, reportAt, roomFor, totalAnswer, totalFor, totalRow}
 use Rattle.rows.specs.Flag.{flag}
 use Rattle.rows.specs.Rows.{fitCounts, fitValues, readConfig, readLimits, readRange, readSlice}
 use Rattle.rows.specs.Slices.{levelAnswer, rangeAnswer, sliceAnswer, valuesAnswer}
@@ -22,9 +22,14 @@ use Rattle.slice.specs.declared.Made.{Made}
 use Rattle.slice.specs.declared.Ranged.{Ranged}
 use Rattle.slice.specs.declared.SviSlice.{SviSlice}
 use Rattle.surface.specs.declared.types.Run.{Run}
+use Rattle.surface.specs.declared.types.ShortExpiryPolicy.{ShortExpiryPolicy}
 use lib.Ieee.{Float}
 use mathlib.Core.List.{List, [], _∷_}
 use mathlib.Core.Path.{_≡_}
+
+-- rows::policy_number
+pub policy-number : (policy : ShortExpiryPolicy) {r₁ r₂ : ℕ} → (r₁ ≡ policyNumber policy) → (r₂ ≡ policyNumber policy) → r₁ ≡ r₂
+policy-number policy h₁ h₂ = settled h₁ h₂
 
 -- rows::write_total
 pub write-total : (t : Total) (total : List Float) {r₁ r₂ : ℕ} {total-exit₁ total-exit₂ : List Float} → ((r₁ ≡ totalAnswer t .number) × (total-exit₁ ≡ totalRow (totalAnswer t))) → ((r₂ ≡ totalAnswer t .number) × (total-exit₂ ≡ totalRow (totalAnswer t))) → (r₁ ≡ r₂) × (total-exit₁ ≡ total-exit₂)

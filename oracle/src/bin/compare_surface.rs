@@ -1,8 +1,9 @@
 //! Slices, surfaces and diagnostics: the port beside the Rust on records, points and grids from a seed.
 
+use kesupayro::c;
 use oracle::port::surfaces::{self as port, Said};
 use oracle::random::Random;
-use oracle::surfaces::{self as rust, Asked, Raw, Report, Tally, made};
+use oracle::surfaces::{self as rust, Asked, Raw, Report, ShortExpiryPolicy, Tally, made};
 use oracle::{rule, work};
 use std::collections::BTreeMap;
 
@@ -14,9 +15,15 @@ const HOW: &str = "oracle/compare-surface [--seed S] [--count N] [--jobs J] [--p
 /// Points asked of each surface.
 const POINTS: usize = 20;
 
-/// Both policies as numbers, of the `i`-th question: every number but 1 is Reject.
-fn policies(i: usize) -> [(u32, bool); 2] {
-    [([0, 2, 0, u32::MAX][i % 4], false), (1, true)]
+/// Both policies, each named on both sides: the port's number and the Rust's own. Every number but 0 is ConstantVol; the `i`-th question takes one of them.
+fn policies(i: usize) -> [(u32, ShortExpiryPolicy); 2] {
+    let other = [c::CONSTANT_VOL, 2, c::CONSTANT_VOL, u32::MAX][i % 4];
+    [(c::REJECT, ShortExpiryPolicy::Reject), (other, ShortExpiryPolicy::ConstantVol)]
+}
+
+/// The policies of those who name none differ, and no question is left to them: docs/DIFFERENCES.md.
+fn defaults() -> bool {
+    matches!(ShortExpiryPolicy::default(), ShortExpiryPolicy::Reject) && c::default_policy() == c::CONSTANT_VOL
 }
 
 /// What a surface showed: questions by function, answers by number, and what differs.
@@ -111,15 +118,15 @@ fn slices(r: &mut Random, run: &[Raw], shown: &mut Shown) {
 }
 
 fn points(r: &mut Random, run: &[Raw], shown: &mut Shown) {
-    shown.ask("surface", || format!("{run:?}"), port::surface(run), number(rust::surface(run, false)));
+    shown.ask("surface", || format!("{run:?}"), port::surface(run), number(rust::surface(run, ShortExpiryPolicy::Reject)));
     for i in 0..POINTS {
         let (k, tau) = (made::k(r, run), made::tau(r, run));
         shown.ask("check_point", || format!("{k:e} {tau:e}"), port::check_point(k, tau), number(rust::point(k, tau)));
-        for (policy, vol) in policies(i) {
+        for (policy, named) in policies(i) {
             let question = || format!("{run:?} {policy} {k:e} {tau:e}");
-            shown.ask("bracket", question, port::bracket(run, policy, k, tau), placed(rust::bracket(run, vol, k, tau)));
-            shown.ask("region", question, port::region(run, policy, k, tau), yes(rust::region(run, vol, k, tau)));
-            shown.ask("total_variance", question, port::total_variance(run, policy, k, tau), said(rust::total_variance(run, vol, k, tau)));
+            shown.ask("bracket", question, port::bracket(run, policy, k, tau), placed(rust::bracket(run, named, k, tau)));
+            shown.ask("region", question, port::region(run, policy, k, tau), yes(rust::region(run, named, k, tau)));
+            shown.ask("total_variance", question, port::total_variance(run, policy, k, tau), said(rust::total_variance(run, named, k, tau)));
         }
     }
     for _ in 0..4 {
@@ -137,7 +144,7 @@ fn grids(r: &mut Random, run: &[Raw], shown: &mut Shown) {
         shown.ask("covers_nodes", || format!("{run:?} {ks:?} {taus:?}"), port::covers_nodes(run, &ks, &taus), yes(rust::covers_nodes(run, &ks, &taus)));
         let tolerances = made::tolerances(r);
         let need = 3 * ks.len() * taus.len();
-        for (policy, vol) in policies(i) {
+        for (policy, named) in policies(i) {
             let room = match r.below(6) {
                 0 => need.saturating_sub(1),
                 1 => r.below(need + 1),
@@ -147,7 +154,7 @@ fn grids(r: &mut Random, run: &[Raw], shown: &mut Shown) {
             let before: Vec<f64> = (0..room).map(|i| 1000.0 + i as f64).collect();
             let question = || format!("{run:?} {policy} {ks:?} {taus:?} {tolerances:?} room {room}");
             let port = port::diagnose(run, policy, &ks, &taus, tolerances, &before);
-            let rust = reported(rust::diagnosed(run, vol, &ks, &taus, tolerances, room), &before);
+            let rust = reported(rust::diagnosed(run, named, &ks, &taus, tolerances, room), &before);
             shown.ask("diagnose", question, port, rust);
         }
     }
@@ -199,6 +206,7 @@ fn main() {
     if platform {
         oracle::elementary::use_platform();
     }
+    assert!(defaults(), "the default policies are not those that docs/DIFFERENCES.md has");
     let most = if words.has("all") { usize::MAX } else { 10 };
     let surfaces = count.div_ceil(POINTS);
     let (mut asked, mut numbers, mut differs) = (BTreeMap::new(), BTreeMap::new(), BTreeMap::<&str, usize>::new());

@@ -67,7 +67,7 @@ pub fn surface(run: &[Raw]) -> Said {
     said(c::surface(run), &[], &[])
 }
 
-/// 1 is ConstantVol, every other policy Reject.
+/// 0 is Reject, every other policy ConstantVol.
 pub fn bracket(run: &[Raw], policy: u32, k: f64, tau: f64) -> Said {
     let (mut places, mut x) = ([COUNT; 3], [FLOAT]);
     said(c::bracket(run, policy, k, tau, &mut places, &mut x), &places, &x)
