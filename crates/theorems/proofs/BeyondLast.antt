@@ -1,7 +1,7 @@
 -- 37: on a valid surface, at a point that passes 34 and 35, `bracket`, `region` and `total_variance` refuse with 37 exactly where tau is beyond the last node and not within its tolerance, whatever the policy.
 -- A tau beyond the last node is within no earlier node's tolerance, which is at most a quarter of the gap to the next node. Assumes nothing.
 use mathlib.Core.Path.{_≡_, refl, sym, ap, subst, _∙_}
-use mathlib.Core.Bool.{Bool, true, false, not, _&&_, _||_, cond}
+use mathlib.Core.Bool.{Bool, true, false, not, _||_, cond}
 use mathlib.Core.List.{List}
 use mathlib.Core.Logic.{_↔_, ⊎-elim}
 use Prim.Native.Nat.{ℕ, zero, suc, _+_, _-_, _*_, _≤_, _<_}
@@ -12,12 +12,10 @@ use lib.IntN.{negsuc}
 use lib.Ieee.{Float, nan, inf, fin, binary64, unlike, neg, mul, sub, lt, le, ne, isNan, fits, ofBits}
 use lib.Ieee.Positive.{num, den, positive, den-pos, own-value, le→cross}
 use borrow.Author.Tests.{le-ltb, ltb-true, ltb-false}
-use Rattle.laws.specs.Floats.{_-f_, _*f_, +0, quarter, at, finite, minOf}
-use Rattle.laws.specs.Loop.{search-on}
-use Rattle.laws.proofs.Choices.{cond-ind, cond-test, if-false, both, passed-one, number-goes}
-use Rattle.laws.proofs.Floats.{self-same}
+use Rattle.laws.specs.Floats.{_-f_, _*f_, quarter, at, minOf}
+use Rattle.laws.proofs.Choices.{cond-ind, cond-test, if-false}
 use Rattle.laws.proofs.Ops.{apply, neg-value, mul-value, add-value}
-use Rattle.laws.proofs.Order.{lt-le-trans, lt-not-self, lt→le, le-self}
+use Rattle.laws.proofs.Order.{lt-le-trans, lt-not-self, lt→le}
 use Rattle.laws.proofs.Signs.{Signed, signed-no-nan, round-signed, mul-signed}
 use Rattle.point.specs.declared.Total.the-variants as total
 use Rattle.point.specs.Point.{pointNumber}
@@ -27,45 +25,24 @@ use Rattle.surface.specs.declared.types.ShortExpiryPolicy.the-variants.{Reject,
 use Rattle.surface.specs.declared.types.Bracket.{Bracket}
 use Rattle.surface.specs.declared.types.Bracket.the-variants.{Segment, Refused}
 use Rattle.surface.specs.declared.types.Region.the-variants as region
-use Rattle.surface.specs.Runs.{sliceAt, tausOf, checkRun}
-use Rattle.surface.specs.Lookup.{nodeTolerance, beforeOf, afterOf, toleranceOf, nearOf, nearAt, nodeOf, beyondAt, beyondOf, onNode, shortOf, insideOf, lookupOf, bracketOf}
-use Rattle.surface.specs.Surface.{regionIn, varianceIn, varianceAt, tolsOf, bracketIn, bracketRun, regionRun, totalRun}
+use Rattle.surface.specs.Runs.{tausOf, checkRun}
+use Rattle.surface.specs.Lookup.{nodeTolerance, beforeOf, afterOf, toleranceOf, nearOf, nearAt, nodeOf, beyondAt, beyondOf, onNode, shortOf, insideOf, lookupOf}
+use Rattle.surface.specs.Surface.{tolsOf, bracketRun, regionRun, totalRun}
 use Rattle.surface.specs.Last.{lastTolerance, BeyondLast, TausFit}
-use Rattle.theorems.proofs.LookupNumbers.{Valued, region-from, variance-from}
-use Rattle.theorems.proofs.Spans.{from-true, to-false, positive-no-nan, not-below, positive-of, gap-units, quarter-signed, out-of-reach, within-any}
-use Rattle.theorems.proofs.ValidRun.{tau-positive, Valid, valid-run}
-
--- ---- searches
-
-search-none : (p : ℕ → Bool) (k i : ℕ) → ((j : ℕ) → i ≤ j → j < i + k → p j ≡ false) → search-on p k i ≡ i + k
-unfolding search-on
-search-none p zero i h = omega arith
-search-none p (suc k) i h =
-    ap (λ (b : Bool). cond b i (search-on p k (i + 1))) (h i (omega arith) (omega arith))
-    ∙ search-none p k (i + 1) (λ j l m. h j (omega (arith, l)) (omega (arith, m)))
-    ∙ (let e : i + 1 + k ≡ i + suc k = omega arith in e)
-
-none-found : (p : ℕ → Bool) (k i : ℕ) → i + k ≤ search-on p k i → (j : ℕ) → i ≤ j → j < i + k → p j ≡ false
-unfolding search-on
-none-found p zero i h j l m = absurd (omega (arith, l, m))
-none-found p (suc k) i h j l m = go (p i) refl h (λ g q. none-found p k (i + 1) g j q (omega (arith, m)))
-  where
-    go : (b : Bool) → p i ≡ b → i + suc k ≤ cond b i (search-on p k (i + 1)) → (i + 1 + k ≤ search-on p k (i + 1) → i + 1 ≤ j → p j ≡ false) → p j ≡ false
-    go true e h rest = absurd (omega (arith, h))
-    go false e h rest = ⊎-elim (λ (q : i ≡ j). subst (λ (j : ℕ). p j ≡ false) q e) (λ (q : i < j). rest (omega (arith, h)) (omega (arith, q))) (eq-or-lt-of-le l)
+use Rattle.theorems.proofs.LookupNumbers.{node-answers, not-valued}
+use Rattle.theorems.proofs.OnValidRun as on
+use Rattle.theorems.proofs.OnValidRun.{search-none, none-found, min-le}
+use Rattle.theorems.proofs.Spans.{from-true, to-false, positive-no-nan, not-below, gap-units, quarter-signed, out-of-reach, within-any}
+use Rattle.theorems.proofs.ValidRun.{Valid, valid-run}
 
 -- ---- what is no 37
-
-node-no : (j : ℕ) → onNode j ≡ Refused 37 → ⊥
-unfolding onNode
-node-no j e = cond-ind (λ (b : Bracket). b ≡ Refused 37 → ⊥) (eqb j 0) (λ e. let z : _≡_ {A = ℕ} 0 1 = cc in omega arith) (λ e. let z : _≡_ {A = ℕ} 0 1 = cc in omega arith) e
 
 short-no : (policy : ShortExpiryPolicy) → shortOf policy ≡ Refused 37 → ⊥
 short-no Reject e = let z : _≡_ {A = ℕ} 36 37 = cc in omega (arith, z)
 short-no ConstantVol e = let z : _≡_ {A = ℕ} 0 1 = cc in omega arith
 
 found-none : (a b : Bool) (j : ℕ) (policy : ShortExpiryPolicy) (rest : Bracket) → cond a (onNode j) (cond b (shortOf policy) rest) ≡ Refused 37 → (a ≡ false) × (rest ≡ Refused 37)
-found-none true b j policy rest e = absurd (node-no j e)
+found-none true b j policy rest e = absurd (node-answers j 37 e)
 found-none false true j policy rest e = absurd (short-no policy e)
 found-none false false j policy rest e = (refl, e)
 
@@ -73,19 +50,7 @@ none-beyond : (b : Bool) (lo hi : ℕ) (x : Float) → cond b (Segment lo hi x) 
 none-beyond true lo hi x e = let z : _≡_ {A = ℕ} 0 1 = cc in absurd (omega arith)
 none-beyond false lo hi x e = refl
 
-not-valued : Valued 37 → ⊥
-not-valued v = ⊎-elim (λ (l : 37 ≤ 31). omega (arith, l)) (λ (p : (38 ≤ 37) × (37 ≤ 39)). let l = p .0 in omega (arith, l)) v
-
 -- ---- tolerances
-
-min-le : (a q : Float) → T (not (isNan q)) → T (le (minOf a q) q)
-unfolding minOf
-min-le a q n = go (lt q a) (ne a a) refl refl
-  where
-    go : (s t : Bool) → lt q a ≡ s → ne a a ≡ t → T (le (cond (s || t) q a) q)
-    go true t e h = le-self q n
-    go false true e h = le-self q n
-    go false false e h = not-below a q (self-same a h) n e
 
 min-signed : (a q : Float) → Signed false a → Signed false q → Signed false (minOf a q)
 unfolding minOf
@@ -121,15 +86,10 @@ module _ (run : Run) (valid : checkRun run ≡ 0) (k tau : Float) (point : point
   taus = tausOf (run .recs)
 
   tau-above : T (positive tau)
-  unfolding pointNumber
-  tau-above =
-      let a = passed-one (finite k) 34 _ (λ e. omega (arith, e)) point in
-      let b = passed-one (finite tau && lt +0 tau) 35 0 (λ e. omega (arith, e)) (a .1) in
-      let c = both (finite tau) (lt +0 tau) (b .0) in
-      positive-of tau (c .0) (from-true (c .1))
+  tau-above = on.tau-above run valid k tau point
 
   node-above : (i : ℕ) → i < n → T (positive (at taus i))
-  node-above i l = subst (λ (x : Float). T (positive x)) (sym (v .tau-at i l)) (tau-positive (sliceAt (run .recs) i) (v .good i l))
+  node-above i l = on.node-above run valid k tau point i l
 
   within : n - 1 < n
   within = let two = v .two in omega (arith, two)
@@ -182,7 +142,7 @@ module _ (run : Run) (valid : checkRun run ≡ 0) (k tau : Float) (point : point
 
     module _ (i : ℕ) (l : i + 1 < n) where
       fits-at : (j : ℕ) → j < n → T (fits binary64 (at taus j))
-      fits-at j m = subst (λ (x : Float). T (fits binary64 x)) (sym (v .tau-at j m)) (fit j m)
+      fits-at j m = on.fits-at run valid k tau point fit j m
 
       here : i < n
       here = omega (arith, l)
@@ -213,14 +173,6 @@ module _ (run : Run) (valid : checkRun run ≡ 0) (k tau : Float) (point : point
         (eq-or-lt-of-le (let z : i + 1 ≤ n = omega (arith, l) in z))
 
   module _ (policy : ShortExpiryPolicy) where
-    bracket-is : bracketRun run policy k tau ≡ bracketIn run policy k tau
-    unfolding bracketRun
-    bracket-is = sym (number-goes _ refl valid refl)
-
-    lookup-is : bracketIn run policy k tau ≡ lookupOf taus (tolsOf run) n policy tau
-    unfolding bracketIn bracketOf
-    lookup-is = sym (if-false _ (le-ltb 32 n (v .few)) (number-goes _ refl point refl))
-
     -- ---- 37 only there
 
     refused : lookupOf taus (tolsOf run) n policy tau ≡ Refused 37 → BeyondLast run tau
@@ -252,28 +204,17 @@ module _ (run : Run) (valid : checkRun run ≡ 0) (k tau : Float) (point : point
 
     -- 37 of `bracket`
     pub bracket-37 : TausFit run → (bracketRun run policy k tau ≡ Refused 37) ↔ BeyondLast run tau
-    bracket-37 fit = (λ e. refused (sym lookup-is ∙ sym bracket-is ∙ e), λ far. bracket-is ∙ lookup-is ∙ refuses fit far)
+    bracket-37 fit = (λ e. refused (sym is ∙ e), λ far. is ∙ refuses fit far)
+      where
+        is : bracketRun run policy k tau ≡ lookupOf taus (tolsOf run) n policy tau
+        is = on.lookup-is run valid k tau point policy
 
     -- ---- the region and the total variance hand it on
 
-    region-is : regionRun run policy k tau ≡ regionIn (run .recs) (bracketIn run policy k tau) k
-    unfolding regionRun
-    region-is = sym (number-goes _ refl valid refl)
-
     -- 37 of `region`
     pub region-37 : TausFit run → (regionRun run policy k tau ≡ region.Refused 37) ↔ BeyondLast run tau
-    region-37 fit = (
-      λ e. bracket-37 fit .0 (bracket-is ∙ region-from (run .recs) (bracketIn run policy k tau) k 37 (sym region-is ∙ e)),
-      λ far. region-is ∙ ap (λ (b : Bracket). regionIn (run .recs) b k) (sym bracket-is ∙ bracket-37 fit .1 far),
-    )
-
-    total-is : totalRun run policy k tau ≡ varianceIn (run .recs) (bracketIn run policy k tau) k tau
-    unfolding totalRun varianceAt bracketIn
-    total-is = sym (number-goes _ refl valid refl)
+    region-37 fit = let h = on.region-as-bracket run valid k tau point policy 37 in (λ e. bracket-37 fit .0 (h .0 e), λ far. h .1 (bracket-37 fit .1 far))
 
     -- 37 of `total_variance`
     pub total-37 : TausFit run → (totalRun run policy k tau ≡ total.Refused 37) ↔ BeyondLast run tau
-    total-37 fit = (
-      λ e. bracket-37 fit .0 (bracket-is ∙ ⊎-elim (λ (b : bracketIn run policy k tau ≡ Refused 37). b) (λ (v : Valued 37). absurd (not-valued v)) (variance-from (run .recs) (bracketIn run policy k tau) k tau 37 (sym total-is ∙ e))),
-      λ far. total-is ∙ ap (λ (b : Bracket). varianceIn (run .recs) b k tau) (sym bracket-is ∙ bracket-37 fit .1 far),
-    )
+    total-37 fit = let h = on.total-as-bracket run valid k tau point policy 37 (not-valued 37 (omega arith) (omega arith)) in (λ e. bracket-37 fit .0 (h .0 e), λ far. h .1 (bracket-37 fit .1 far))

@@ -2,7 +2,9 @@
 pub mod LookupNumbers
 pub mod Spans
 pub mod ValidRun
+pub mod OnValidRun
 pub mod BeyondLast
+pub mod BeforeFirst
 pub mod RejectNamed
 pub mod EitherPolicy
 -- The search: no better face, and windows within the domain.

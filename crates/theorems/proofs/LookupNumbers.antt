@@ -24,6 +24,7 @@ use Rattle.surface.specs.declared.types.Bracket.{Bracket}
 use Rattle.surface.specs.declared.types.Bracket.the-variants.{Segment, Short, Refused}
 use Rattle.surface.specs.declared.types.Region.the-variants as region
 use Rattle.surface.specs.Runs.{sliceAt, tausOf, badTurn, firstBad, risesOf, checkRun}
+use Rattle.surface.specs.Lookup.{onNode}
 use Rattle.surface.specs.Surface.{bothHold, regionBy, regionIn, mixedOf, shortScaled, blendOf, shortIn, segmentOf, shortFrom, varianceIn}
 
 -- where a number may refuse, an answer is that refusal or the rest's
@@ -91,6 +92,9 @@ own v =
     (cond-ind Valued ((finite (v .«w_k») && finite (v .«w_kk»)) && finite (v .«w_tau»)) (inl (omega arith)) (inr (omega arith, omega arith)))
     (inr (omega arith, omega arith))
 
+pub not-valued : (n : ℕ) → 32 ≤ n → n ≤ 37 → Valued n → ⊥
+not-valued n l h v = ⊎-elim (λ (m : n ≤ 31). omega (arith, l, m)) (λ (p : (38 ≤ n) × (n ≤ 39)). let m = p .0 in omega (arith, h, m)) v
+
 total-number : (w wk wkk wtau : Float) (n : ℕ) → totalOf w wk wkk wtau ≡ total.Refused n → Valued n
 unfolding totalOf
 total-number w wk wkk wtau n e =
@@ -112,6 +116,12 @@ scaled-number : (r : Evaluated) (tau first : Float) (n : ℕ) → (r ≡ evaluat
 unfolding shortScaled
 scaled-number (evaluated.Refused m) tau first n p e = inl (p (let z : m ≡ n = cc in ap evaluated.Refused z))
 scaled-number (evaluated.At v) tau first n p e = total-number _ _ _ _ n e
+
+-- ---- a node answers
+
+pub node-answers : (j n : ℕ) → onNode j ≡ Refused n → ⊥
+unfolding onNode
+node-answers j n e = cond-ind (λ (b : Bracket). b ≡ Refused n → ⊥) (eqb j 0) (λ e. let z : _≡_ {A = ℕ} 0 1 = cc in omega arith) (λ e. let z : _≡_ {A = ℕ} 0 1 = cc in omega arith) e
 
 -- ---- what is handed on
 

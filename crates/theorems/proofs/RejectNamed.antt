@@ -26,7 +26,7 @@ use Rattle.surface.specs.declared.types.Bracket.the-variants.{Segment, Short, R
 use Rattle.surface.specs.declared.types.Region.{Region}
 use Rattle.surface.specs.declared.types.Region.the-variants as region
 use Rattle.surface.specs.Runs.{tausOf, checkRun}
-use Rattle.surface.specs.Lookup.{nodeOf, beyondOf, onNode, shortOf, insideOf, lookupOf, bracketOf}
+use Rattle.surface.specs.Lookup.{nodeOf, beyondOf, shortOf, insideOf, lookupOf, bracketOf}
 use Rattle.surface.specs.Surface.{regionIn, varianceAt, tolsOf, bracketIn, bracketRun, regionRun, totalRun, surfaceGridNumber}
 use Rattle.surface.specs.Axis.{risingOf, allPositive, gridNumber}
 use Rattle.diagnostics.specs.declared.points.Seen.{Seen}
@@ -42,7 +42,7 @@ use Rattle.diagnostics.proofs.FailuresInOrder.{failures-in-order, failures-coun
 use Rattle.diagnostics.proofs.RefusalKeepsRoom.{number-of-answer}
 use Rattle.rows.proofs.PolicyNumbers.{reject-named}
 use Rattle.rows.specs.Answers.{policyOf, bracketAnswer, regionAnswer, totalAnswer, diagnosedAnswer, bracketFor, regionFor, totalFor, gridConfig, diagnosedFor, roomFor}
-use Rattle.theorems.proofs.LookupNumbers.{either, run-number, point-number, Valued, region-from, variance-from}
+use Rattle.theorems.proofs.LookupNumbers.{either, node-answers, run-number, point-number, Valued, region-from, variance-from}
 
 -- ---- the policy handed in
 
@@ -65,10 +65,10 @@ module _ (policy : ShortExpiryPolicy) where
   short-named ConstantVol h n e = let z : _≡_ {A = ℕ} 0 1 = cc in absurd (omega arith)
 
   lookup-named : (taus tols : List Float) (m : ℕ) (tau : Float) (n : ℕ) → lookupOf taus tols m policy tau ≡ Refused n → Named n
-  unfolding lookupOf insideOf onNode
+  unfolding lookupOf insideOf
   lookup-named taus tols m tau n =
       cond-ind To (ltb (nodeOf taus tols m tau) m)
-      (cond-ind To (eqb (nodeOf taus tols m tau) 0) (λ e. let z : _≡_ {A = ℕ} 0 1 = cc in absurd (omega arith)) (λ e. let z : _≡_ {A = ℕ} 0 1 = cc in absurd (omega arith)))
+      (λ e. absurd (node-answers (nodeOf taus tols m tau) n e))
       (cond-ind To (lt tau (at taus 0)) (short-named policy refl n)
       (cond-ind To (ltb (beyondOf taus m tau) m) (λ e. let z : _≡_ {A = ℕ} 0 1 = cc in absurd (omega arith)) (λ e. let z : 37 ≡ n = cc in high n (omega (arith, z)) (omega (arith, z)))))
     where

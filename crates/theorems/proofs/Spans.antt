@@ -185,21 +185,21 @@ quarter-less g u = go (u .zeros) (u .parts) (u .low)
 
 -- ---- magnitudes
 
-abs-odd : (d : ℕ) (q k l : ℕ) → absOf (odd d true q k l) ≡ odd d false q k l
+abs-odd : (d : ℕ) (s : Bool) (q k l : ℕ) → absOf (odd d s q k l) ≡ odd d false q k l
 unfolding odd absOf
-abs-odd d zero k l = refl
-abs-odd d (suc q) k l = refl
+abs-odd d s zero k l = refl
+abs-odd d s (suc q) k l = refl
 
-abs-units : (q k : ℕ) → absOf (units binary64 true q k) ≡ units binary64 false q k
+abs-units : (s : Bool) (q k : ℕ) → absOf (units binary64 s q k) ≡ units binary64 false q k
 unfolding units absOf
-abs-units q k = go (ltb (q * 2 ^ k) (2 ^ 2098))
+abs-units s q k = go (ltb (q * 2 ^ k) (2 ^ 2098))
   where
-    go : (b : Bool) → absOf (cond b (odd 54 true q k 1074) (inf true)) ≡ cond b (odd 54 false q k 1074) (inf false)
-    go true = abs-odd 54 q k 1074
+    go : (b : Bool) → absOf (cond b (odd 54 s q k 1074) (inf s)) ≡ cond b (odd 54 false q k 1074) (inf false)
+    go true = abs-odd 54 s q k 1074
     go false = refl
 
-abs-round : (a c : ℕ) → absOf (round binary64 true a c) ≡ round binary64 false a c
-abs-round a c = ap absOf (round-is binary64 true a c) ∙ abs-units _ _ ∙ sym (round-is binary64 false a c)
+abs-round : (s : Bool) (a c : ℕ) → absOf (round binary64 s a c) ≡ round binary64 false a c
+abs-round s a c = ap absOf (round-is binary64 s a c) ∙ abs-units s _ _ ∙ sym (round-is binary64 false a c)
 
 abs-value : (x : Float) (a c : ℕ) → HasValue x false a c → HasValue (absOf x) false a c
 unfolding absOf
@@ -229,6 +229,18 @@ spreads : (X Y N D U : ℕ) → X < Y → Y * D ≤ N * U → (Y * U - X * U) * 
 spreads X Y N D U l h =
     let e : X + (Y - X) ≡ Y = omega (arith, l) in
     subst (λ (y : ℕ). (y * U - X * U) * (D * U) ≤ (N * U - X * D) * (U * U)) e (spread X (Y - X) N D U (subst (λ (y : ℕ). y * D ≤ N * U) (sym e) h))
+
+spread-down : (X P N D U : ℕ) → N * U ≤ X * D → ((X + P) * U - X * U) * (U * D) ≤ ((X + P) * D - N * U) * (U * U)
+spread-down X P N D U h =
+    let a : (X + P) * U - X * U ≡ P * U = omega arith in
+    let b : P * D ≤ (X + P) * D - N * U = omega (arith, h) in
+    let d : P * U * (U * D) ≡ P * D * (U * U) = omega arith in
+    le-trans (le-of-eq (ap (λ (z : ℕ). z * (U * D)) a ∙ d)) (mul-le-mul-right (U * U) b)
+
+spreads-down : (X Y N D U : ℕ) → X < Y → N * U ≤ X * D → (Y * U - X * U) * (U * D) ≤ (Y * D - N * U) * (U * U)
+spreads-down X Y N D U l h =
+    let e : X + (Y - X) ≡ Y = omega (arith, l) in
+    subst (λ (y : ℕ). (y * U - X * U) * (U * D) ≤ (y * D - N * U) * (U * U)) e (spread-down X (Y - X) N D U h)
 
 one-at-least : (X Y U : ℕ) → X < Y → 1 * (U * U) ≤ (Y * U - X * U) * U
 one-at-least X Y U l =
@@ -279,6 +291,13 @@ module _ (x y : Float) (fx : T (fits binary64 x)) (fy : T (fits binary64 y)) (px
   pub gap-units : Units (y -f x)
   gap-units = units-of (y -f x) (sub-fits binary64 y x) gap-positive
 
+  -- what is no less than the gap is above every tolerance of at most its quarter
+  too-far : (w : Float) → T (not (isNan w)) → T (le (y -f x) w) → (t : Float) → T (le t (quarter *f (y -f x))) → le w t ≡ false
+  too-far w real far t h = to-false (le w t) (λ k.
+      let q = quarter *f (y -f x) in
+      let n : T (not (isNan q)) = signed-no-nan false q (quarter-signed (y -f x) gap-units) in
+      lt-not-self q (lt-le-trans q w q (lt-le-trans q (y -f x) w (quarter-less (y -f x) gap-units) far) (order.le-trans w t q real n k h)))
+
   module _ (z : Float) (pz : T (positive z)) (up-to : T (le y z)) where
     crossed : uy .some * den z ≤ num z * U
     crossed = values-of-le y z (uy .some) U (num z) (den z) py pz (uy .value) (own-value z pz) up-to
@@ -290,7 +309,7 @@ module _ (x y : Float) (fx : T (fits binary64 x)) (fy : T (fits binary64 y)) (px
     unfolding sub
     wide-is =
         ap absOf (sub-value-less x (neg z) (ux .some) U (num z) (den z) (pow-pos 1074) (den-pos z) (ux .value) (neg-value z (num z) (den z) (own-value z pz)) across)
-        ∙ abs-round (num z * U - ux .some * den z) (den z * U)
+        ∙ abs-round true (num z * U - ux .some * den z) (den z * U)
 
     -- the rounded difference is no less than the rounded gap
     wide : T (le (y -f x) (absOf (x -f z)))
@@ -303,12 +322,30 @@ module _ (x y : Float) (fx : T (fits binary64 x)) (fy : T (fits binary64 y)) (px
     -- so a tolerance of at most a quarter of the gap does not reach from x to z
     pub out-of-reach : (t : Float) → T (le t (quarter *f (y -f x))) → nearOf x z t ≡ false
     unfolding nearOf
-    out-of-reach t h = to-false (le (absOf (x -f z)) t) (λ k.
-        let q = quarter *f (y -f x) in
-        let w : T (not (isNan (absOf (x -f z)))) = subst (λ (w : Float). T (not (isNan w))) (sym wide-is) (signed-no-nan false _ (round-signed binary64 false _ _)) in
-        let n : T (not (isNan q)) = signed-no-nan false q (quarter-signed (y -f x) gap-units) in
-        let a : T (le (absOf (x -f z)) q) = order.le-trans (absOf (x -f z)) t q w n k h in
-        lt-not-self q (lt-le-trans q (absOf (x -f z)) q (lt-le-trans q (y -f x) (absOf (x -f z)) (quarter-less (y -f x) gap-units) wide) a))
+    out-of-reach t h = too-far (absOf (x -f z)) (subst (λ (w : Float). T (not (isNan w))) (sym wide-is) (signed-no-nan false _ (round-signed binary64 false _ _))) wide t h
+
+  -- the same on the other side of the gap
+  module _ (z : Float) (pz : T (positive z)) (down-to : T (le z x)) where
+    under : num z * U ≤ ux .some * den z
+    under = values-of-le z x (num z) (den z) (ux .some) U pz px (own-value z pz) (ux .value) down-to
+
+    under-is : absOf (y -f z) ≡ round binary64 false (uy .some * den z - num z * U) (U * den z)
+    unfolding sub
+    under-is =
+        let l : ux .some * den z ≤ uy .some * den z = mul-le-mul-right (den z) (let f = fewer in omega (arith, f)) in
+        ap absOf (add-value y (neg z) true (uy .some) U (num z) (den z) (pow-pos 1074) (den-pos z) (uy .value) (neg-value z (num z) (den z) (own-value z pz)) (le-trans under l))
+        ∙ abs-round false (uy .some * den z - num z * U) (U * den z)
+
+    wide-under : T (le (y -f x) (absOf (y -f z)))
+    wide-under =
+        subst (λ (w : Float). T (le (y -f x) w)) (sym under-is)
+        (subst (λ (g : Float). T (le g (round binary64 false (uy .some * den z - num z * U) (U * den z)))) (sym gap-is)
+        (round-mono binary64 (uy .some * U - ux .some * U) (U * U) (uy .some * den z - num z * U) (U * den z) (mul-pos (pow-pos 1074) (pow-pos 1074)) (mul-pos (pow-pos 1074) (den-pos z))
+        (spreads-down (ux .some) (uy .some) (num z) (den z) U fewer under)))
+
+    pub out-of-reach-under : (t : Float) → T (le t (quarter *f (y -f x))) → nearOf y z t ≡ false
+    unfolding nearOf
+    out-of-reach-under t h = too-far (absOf (y -f z)) (subst (λ (w : Float). T (not (isNan w))) (sym under-is) (signed-no-nan false _ (round-signed binary64 false _ _))) wide-under t h
 
 -- ---- what is equal is within every tolerance
 
