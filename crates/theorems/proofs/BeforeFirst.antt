@@ -7,14 +7,12 @@ use mathlib.Core.Logic.{_↔_}
 use Prim.Native.Nat.{ℕ, zero, suc, _+_, _-_, _≤_, _<_}
 use native.Mathlib.Omega.{arith}
 use lib.Dec.{T, eqb, ltb}
-use lib.Ieee.{Float, nan, inf, fin, binary64, lt, le, ne, isNan, fits}
-use lib.Ieee.Positive.{positive}
+use lib.Ieee.{Float, nan, inf, fin, lt, le, ne, isNan}
 use borrow.Author.Tests.{le-ltb, ltb-false, eqb-true}
 use Rattle.laws.specs.Floats.{_-f_, _*f_, quarter, at, minOf}
 use Rattle.laws.proofs.Choices.{cond-ind, cond-test, if-true, if-false}
 use Rattle.laws.proofs.Floats.{nan-test}
 use Rattle.laws.proofs.Order.{lt-le-trans, lt→le}
-use Rattle.laws.proofs.Signs.{signed-no-nan}
 use Rattle.point.specs.declared.Total.the-variants as total
 use Rattle.point.specs.Point.{pointNumber}
 use Rattle.surface.specs.declared.types.Run.{Run}
@@ -32,7 +30,7 @@ use Rattle.theorems.proofs.LookupNumbers.{node-answers, not-valued}
 use Rattle.theorems.proofs.OnValidRun as on
 use Rattle.theorems.proofs.OnValidRun.{search-none, none-found, min-le}
 use Rattle.theorems.proofs.RejectNamed.{bracket-36}
-use Rattle.theorems.proofs.Spans.{from-true, gap-units, quarter-signed, out-of-reach-under}
+use Rattle.theorems.proofs.Spans.{from-true}
 use Rattle.theorems.proofs.ValidRun.{Valid, valid-run}
 
 -- ---- 36 comes from the second test alone
@@ -78,9 +76,6 @@ module _ (run : Run) (valid : checkRun run ≡ 0) (k tau : Float) (point : point
   some : 0 < n
   some = let two = v .two in omega (arith, two)
 
-  node-above : (i : ℕ) → i < n → T (positive (at taus i))
-  node-above i l = on.node-above run valid k tau point i l
-
   -- ---- before the first node no node is near
 
   module _ (fit : TausFit run) (far : BeforeFirst run tau) where
@@ -95,32 +90,20 @@ module _ (run : Run) (valid : checkRun run ≡ 0) (k tau : Float) (point : point
         lt-le-trans tau (at taus i) (at taus (suc i)) (each-above i (omega (arith, l))) (lt→le _ _ (from-true (subst (λ (j : ℕ). lt (at taus i) (at taus j) ≡ true) e (v .rises i m))))
 
     module _ (i : ℕ) (l : i + 1 < n) where
-      fits-at : (j : ℕ) → j < n → T (fits binary64 (at taus j))
-      fits-at j m = on.fits-at run valid k tau point fit j m
-
-      here : i < n
-      here = omega (arith, l)
-
-      rising : T (lt (at taus i) (at taus (i + 1)))
-      rising = from-true (v .rises i l)
-
-      tolerance-small : T (le (at (tolsOf run) (i + 1)) (quarter *f (at taus (i + 1) -f at taus i)))
+      tolerance-small : T (le (at (tolsOf run) (i + 1)) (on.quarterGap run valid k tau point fit i l))
       unfolding toleranceOf afterOf beforeOf
       tolerance-small =
-          let q = quarter *f (at taus (i + 1) -f at taus i) in
-          let real : T (not (isNan q)) = signed-no-nan false q (quarter-signed _ (gap-units (at taus i) (at taus (i + 1)) (fits-at i here) (fits-at (i + 1) l) (node-above i here) (node-above (i + 1) l) rising)) in
+          let q = on.quarterGap run valid k tau point fit i l in
           let e : i + 1 - 1 ≡ i = omega arith in
           let before : T (le (beforeOf taus (i + 1) (nodeTolerance *f at taus (i + 1))) q) =
           cond-test (λ (t : Float). T (le t q)) (eqb (i + 1) 0)
           (λ z. let a = eqb-true (i + 1) 0 z in absurd (omega (arith, a)))
-          (λ z. subst (λ (j : ℕ). T (le (minOf (nodeTolerance *f at taus (i + 1)) (quarter *f (at taus (i + 1) -f at taus j))) q)) (sym e) (min-le _ q real)) in
+          (λ z. subst (λ (j : ℕ). T (le (minOf (nodeTolerance *f at taus (i + 1)) (quarter *f (at taus (i + 1) -f at taus j))) q)) (sym e) (min-le _ q (on.quarter-real run valid k tau point fit i l))) in
           subst (λ (t : Float). T (le t q)) (sym (v .tol-at (i + 1) l))
           (cond-ind (λ (t : Float). T (le t q)) (ltb (i + 1 + 1) n) (min-under _ _ q before) before)
 
       not-near-later : nearAt taus (tolsOf run) tau (i + 1) ≡ false
-      not-near-later =
-          out-of-reach-under (at taus i) (at taus (i + 1)) (fits-at i here) (fits-at (i + 1) l) (node-above i here) (node-above (i + 1) l) rising
-          tau (on.tau-above run valid k tau point) (lt→le _ _ (each-above i here)) (at (tolsOf run) (i + 1)) tolerance-small
+      not-near-later = on.far-below run valid k tau point fit i l (lt→le _ _ (each-above i (omega (arith, l)))) (at (tolsOf run) (i + 1)) tolerance-small
 
     not-near : (i : ℕ) → i < n → nearAt taus (tolsOf run) tau i ≡ false
     not-near zero l = subst (λ (x : Float). nearOf x tau (firstTolerance run) ≡ false) (sym (v .tau-at 0 some)) (far .not-on-it)

@@ -9,14 +9,14 @@ use native.Mathlib.Nat.{eq-or-lt-of-le}
 use native.Mathlib.Omega.{arith}
 use lib.Dec.{T, eqb, ltb}
 use lib.IntN.{negsuc}
-use lib.Ieee.{Float, nan, inf, fin, binary64, unlike, neg, mul, sub, lt, le, ne, isNan, fits, ofBits}
+use lib.Ieee.{Float, nan, inf, fin, binary64, unlike, neg, mul, sub, lt, le, ne, ofBits}
 use lib.Ieee.Positive.{num, den, positive, den-pos, own-value, le→cross}
 use borrow.Author.Tests.{le-ltb, ltb-true, ltb-false}
 use Rattle.laws.specs.Floats.{_-f_, _*f_, quarter, at, minOf}
 use Rattle.laws.proofs.Choices.{cond-ind, cond-test, if-false}
 use Rattle.laws.proofs.Ops.{apply, neg-value, mul-value, add-value}
 use Rattle.laws.proofs.Order.{lt-le-trans, lt-not-self, lt→le}
-use Rattle.laws.proofs.Signs.{Signed, signed-no-nan, round-signed, mul-signed}
+use Rattle.laws.proofs.Signs.{Signed, round-signed, mul-signed}
 use Rattle.point.specs.declared.Total.the-variants as total
 use Rattle.point.specs.Point.{pointNumber}
 use Rattle.surface.specs.declared.types.Run.{Run}
@@ -32,7 +32,7 @@ use Rattle.surface.specs.Last.{lastTolerance, BeyondLast, TausFit}
 use Rattle.theorems.proofs.LookupNumbers.{node-answers, not-valued}
 use Rattle.theorems.proofs.OnValidRun as on
 use Rattle.theorems.proofs.OnValidRun.{search-none, none-found, min-le}
-use Rattle.theorems.proofs.Spans.{from-true, to-false, positive-no-nan, not-below, gap-units, quarter-signed, out-of-reach, within-any}
+use Rattle.theorems.proofs.Spans.{from-true, to-false, positive-no-nan, not-below, within-any}
 use Rattle.theorems.proofs.ValidRun.{Valid, valid-run}
 
 -- ---- what is no 37
@@ -141,29 +141,17 @@ module _ (run : Run) (valid : checkRun run ≡ 0) (k tau : Float) (point : point
     passed i l = to-false _ (λ h. lt-not-self tau (lt-le-trans tau (at taus i) tau h (lt→le _ _ (each-below i l))))
 
     module _ (i : ℕ) (l : i + 1 < n) where
-      fits-at : (j : ℕ) → j < n → T (fits binary64 (at taus j))
-      fits-at j m = on.fits-at run valid k tau point fit j m
-
-      here : i < n
-      here = omega (arith, l)
-
-      rising : T (lt (at taus i) (at taus (i + 1)))
-      rising = from-true (v .rises i l)
-
-      tolerance-small : T (le (at (tolsOf run) i) (quarter *f (at taus (i + 1) -f at taus i)))
+      tolerance-small : T (le (at (tolsOf run) i) (on.quarterGap run valid k tau point fit i l))
       unfolding toleranceOf afterOf
       tolerance-small =
-          let q = quarter *f (at taus (i + 1) -f at taus i) in
-          let real : T (not (isNan q)) = signed-no-nan false q (quarter-signed _ (gap-units (at taus i) (at taus (i + 1)) (fits-at i here) (fits-at (i + 1) l) (node-above i here) (node-above (i + 1) l) rising)) in
-          subst (λ (t : Float). T (le t q)) (sym (v .tol-at i here))
+          let q = on.quarterGap run valid k tau point fit i l in
+          subst (λ (t : Float). T (le t q)) (sym (v .tol-at i (omega (arith, l))))
           (cond-test (λ (t : Float). T (le t q)) (ltb (i + 1) n)
-          (λ e. min-le _ q real)
+          (λ e. min-le _ q (on.quarter-real run valid k tau point fit i l))
           (λ e. let m = ltb-false (i + 1) n e in absurd (omega (arith, l, m))))
 
       not-near-earlier : nearAt taus (tolsOf run) tau i ≡ false
-      not-near-earlier =
-          out-of-reach (at taus i) (at taus (i + 1)) (fits-at i here) (fits-at (i + 1) l) (node-above i here) (node-above (i + 1) l) rising
-          tau tau-above (lt→le _ _ (each-below (i + 1) l)) (at (tolsOf run) i) tolerance-small
+      not-near-earlier = on.far-above run valid k tau point fit i l (lt→le _ _ (each-below (i + 1) l)) (at (tolsOf run) i) tolerance-small
 
     not-near : (i : ℕ) → i < n → nearAt taus (tolsOf run) tau i ≡ false
     not-near i l =

@@ -10,11 +10,12 @@ use lib.Dec.{T}
 use lib.Ieee.{Float, binary64, lt, le, ne, isNan, fits}
 use lib.Ieee.Positive.{positive}
 use borrow.Author.Tests.{le-ltb}
-use Rattle.laws.specs.Floats.{+0, at, finite, minOf}
+use Rattle.laws.specs.Floats.{_-f_, _*f_, +0, quarter, at, finite, minOf}
 use Rattle.laws.specs.Loop.{search-on}
 use Rattle.laws.proofs.Choices.{if-false, both, passed-one, number-goes}
 use Rattle.laws.proofs.Floats.{self-same}
 use Rattle.laws.proofs.Order.{le-self}
+use Rattle.laws.proofs.Signs.{signed-no-nan}
 use Rattle.point.specs.declared.Total.the-variants as total
 use Rattle.point.specs.Point.{pointNumber}
 use Rattle.surface.specs.declared.types.Run.{Run}
@@ -23,11 +24,11 @@ use Rattle.surface.specs.declared.types.Bracket.{Bracket}
 use Rattle.surface.specs.declared.types.Bracket.the-variants.{Refused}
 use Rattle.surface.specs.declared.types.Region.the-variants as region
 use Rattle.surface.specs.Runs.{sliceAt, tausOf, checkRun}
-use Rattle.surface.specs.Lookup.{lookupOf, bracketOf}
+use Rattle.surface.specs.Lookup.{nearOf, lookupOf, bracketOf}
 use Rattle.surface.specs.Surface.{regionIn, varianceIn, varianceAt, tolsOf, bracketIn, bracketRun, regionRun, totalRun}
 use Rattle.surface.specs.Last.{TausFit}
 use Rattle.theorems.proofs.LookupNumbers.{Valued, region-from, variance-from}
-use Rattle.theorems.proofs.Spans.{from-true, not-below, positive-of}
+use Rattle.theorems.proofs.Spans.{from-true, not-below, positive-of, gap-units, quarter-signed, out-of-reach, out-of-reach-under}
 use Rattle.theorems.proofs.ValidRun.{tau-positive, Valid, valid-run}
 
 -- ---- searches
@@ -83,8 +84,28 @@ module _ (run : Run) (valid : checkRun run ≡ 0) (k tau : Float) (point : point
   pub node-above : (i : ℕ) → i < n → T (positive (at taus i))
   node-above i l = subst (λ (x : Float). T (positive x)) (sym (v .tau-at i l)) (tau-positive (sliceAt (run .recs) i) (v .good i l))
 
-  pub fits-at : TausFit run → (j : ℕ) → j < n → T (fits binary64 (at taus j))
-  fits-at fit j m = subst (λ (x : Float). T (fits binary64 x)) (sym (v .tau-at j m)) (fit j m)
+  -- two neighbours: a tolerance of at most a quarter of their gap does not reach across it, upward or downward
+  module _ (fit : TausFit run) (i : ℕ) (l : i + 1 < n) where
+    here : i < n
+    here = omega (arith, l)
+
+    fits-at : (j : ℕ) → j < n → T (fits binary64 (at taus j))
+    fits-at j m = subst (λ (x : Float). T (fits binary64 x)) (sym (v .tau-at j m)) (fit j m)
+
+    rising : T (lt (at taus i) (at taus (i + 1)))
+    rising = from-true (v .rises i l)
+
+    abbrev pub quarterGap : Float
+    quarterGap = quarter *f (at taus (i + 1) -f at taus i)
+
+    pub quarter-real : T (not (isNan quarterGap))
+    quarter-real = signed-no-nan false _ (quarter-signed _ (gap-units (at taus i) (at taus (i + 1)) (fits-at i here) (fits-at (i + 1) l) (node-above i here) (node-above (i + 1) l) rising))
+
+    pub far-above : T (le (at taus (i + 1)) tau) → (t : Float) → T (le t quarterGap) → nearOf (at taus i) tau t ≡ false
+    far-above up-to = out-of-reach (at taus i) (at taus (i + 1)) (fits-at i here) (fits-at (i + 1) l) (node-above i here) (node-above (i + 1) l) rising tau tau-above up-to
+
+    pub far-below : T (le tau (at taus i)) → (t : Float) → T (le t quarterGap) → nearOf (at taus (i + 1)) tau t ≡ false
+    far-below down-to = out-of-reach-under (at taus i) (at taus (i + 1)) (fits-at i here) (fits-at (i + 1) l) (node-above i here) (node-above (i + 1) l) rising tau tau-above down-to
 
   module _ (policy : ShortExpiryPolicy) where
     bracket-is : bracketRun run policy k tau ≡ bracketIn run policy k tau

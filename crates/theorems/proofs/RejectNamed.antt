@@ -171,13 +171,13 @@ module _ (P : Float → Type 0) where
 
 -- a refusal's number is exact in a float
 
-one-value : (x : Float) (a b : ℕ) → HasValue x false a 1 → HasValue x false b 1 → a ≡ b
-one-value nan a b h g = absurd h
-one-value (inf s) a b h g = absurd h
-one-value (fin s m e) a b h g = eq-of-mul-eq-mul-right (down e) (down-pos e) a b (sym (h .1) ∙ g .1)
+same-whole : (x : Float) (a b : ℕ) → HasValue x false a 1 → HasValue x false b 1 → a ≡ b
+same-whole nan a b h g = absurd h
+same-whole (inf s) a b h g = absurd h
+same-whole (fin s m e) a b h g = eq-of-mul-eq-mul-right (down e) (down-pos e) a b (sym (h .1) ∙ g .1)
 
 num-same : (n m : ℕ) → n ≤ 42 → m ≤ 42 → num n ≡ num m → n ≡ m
-num-same n m l h e = one-value (num m) n m (subst (λ (x : Float). HasValue x false n 1) e (num-value n (le-trans l below))) (num-value m (le-trans h below))
+num-same n m l h e = same-whole (num m) n m (subst (λ (x : Float). HasValue x false n 1) e (num-value n (le-trans l below))) (num-value m (le-trans h below))
   where
     below : 42 ≤ 2 ^ 53
     below = lit≤ tt

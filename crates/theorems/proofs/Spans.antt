@@ -85,7 +85,7 @@ unsigned (inf t) s n c p v = absurd p
 unsigned (fin true m e) s n c p v = absurd p
 unsigned (fin false m e) s n c p v = (refl, v .1)
 
-pub units-of : (x : Float) → T (fits binary64 x) → T (positive x) → Units x
+units-of : (x : Float) → T (fits binary64 x) → T (positive x) → Units x
 unfolding amount
 units-of x f p =
     let b = toBits binary64 x in
@@ -156,7 +156,7 @@ above-zero (inf s) p = absurd p
 above-zero (fin true m e) p = absurd p
 above-zero (fin false m e) p = let l = mul-pos (ltb→lt 0 m p) (up-pos e) in lt→ltb (0 * down e) (m * up e * 1) (omega (arith, l))
 
-pub quarter-less : (g : Float) → Units g → T (lt (quarter *f g) g)
+quarter-less : (g : Float) → Units g → T (lt (quarter *f g) g)
 quarter-less g u = go (u .zeros) (u .parts) (u .low)
   where
     one-unit : u .some ≡ 1 → T (lt (quarter *f g) g)
@@ -278,7 +278,7 @@ module _ (x y : Float) (fx : T (fits binary64 x)) (fy : T (fits binary64 y)) (px
       let l = fewer in
       add-value y (neg x) true (uy .some) U (ux .some) U (pow-pos 1074) (pow-pos 1074) (uy .value) (neg-value x (ux .some) U (ux .value)) (mul-le-mul-right U (omega (arith, l)))
 
-  pub gap-positive : T (positive (y -f x))
+  gap-positive : T (positive (y -f x))
   gap-positive =
       let lo = round binary64 false 1 U in
       let hi = round binary64 false (uy .some) U in
