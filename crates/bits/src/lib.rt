@@ -1,4 +1,6 @@
 // Choices without a jump, tests on floats, floats as their bits, and numbers out of bytes. Every function answers on every input.
+#![tactic(auto)]
+
 ghost use Rattle.std.specs.Prelude.{◌≡◌, cond, ◌<◌, get_or};
 ghost use Rattle.std.specs.Float.Ieee.{lt, of_bits, to_bits};
 ghost use Rattle.std.specs.Float.{binary64};

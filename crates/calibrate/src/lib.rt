@@ -1,4 +1,6 @@
 // Calibration of one slice: the entry checks, the plan of the search, the search, the end of the fit, and the two lent buffers.
+#![tactic(auto)]
+
 mod ending;
 mod params;
 mod writing;

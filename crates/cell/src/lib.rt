@@ -1,4 +1,6 @@
 // One cell (m, sigma) of the search: the least squares over the polytope by trying its faces, `inner` of calibrate.rs.
+#![tactic(auto)]
+
 mod least;
 mod scales;
 mod trial;
@@ -17,7 +19,7 @@ use faces::Face;
 
 // The sizes of a fit's model: how many unknowns, constraints and faces. The definitions take them as a parameter, but their block, rows and bounds are those of a, d and c
 // (`problem_of` of specs/Cell), and the code is that of 3, 7 and 64.
-#[derive(Drop)]
+#[derive(Clone, Copy)]
 pub struct Model {
     pub u: usize,
     pub n: usize,
@@ -26,7 +28,7 @@ pub struct Model {
 
 // What a fit fixes for all its cells.
 #[repr(C)]
-#[derive(Drop)]
+#[derive(Clone, Copy)]
 pub struct Limits {
     pub a_min: f64,
     pub a_max: f64,
@@ -35,7 +37,7 @@ pub struct Limits {
 }
 
 // One line of the normal equations: its right side, and its three entries.
-#[derive(Drop)]
+#[derive(Clone, Copy)]
 pub struct Line {
     pub lin: f64,
     pub q0: f64,
@@ -44,7 +46,7 @@ pub struct Line {
 }
 
 // The normal equations: the lines of a, d and c.
-#[derive(Drop)]
+#[derive(Clone, Copy)]
 pub struct Normal {
     pub a: Line,
     pub d: Line,
@@ -52,7 +54,7 @@ pub struct Normal {
 }
 
 // The point of a face, where its system has one, and how many entries of its matrix were updated.
-#[derive(Drop)]
+#[derive(Clone, Copy)]
 pub struct Point {
     pub x: [f64; 3],
     pub ok: bool,
@@ -60,7 +62,7 @@ pub struct Point {
 }
 
 // A face that was tried: whether it qualifies, its objective, its point and itself.
-#[derive(Drop)]
+#[derive(Clone, Copy)]
 pub struct Tried {
     pub some: bool,
     pub objective: f64,
@@ -69,7 +71,7 @@ pub struct Tried {
 }
 
 // Faces that were tried: the best of them, and how many entries of their matrices were updated. The work stands beside the try, which it does not change.
-#[derive(Drop)]
+#[derive(Clone, Copy)]
 pub struct Walked {
     pub best: Tried,
     pub updates: usize,
@@ -77,7 +79,7 @@ pub struct Walked {
 
 // A cell: whether a face qualifies, the best one's objective, point (a, d, c) and constraints, how many faces were tried, and how many entries of their matrices were updated.
 #[repr(C)]
-#[derive(Drop)]
+#[derive(Clone, Copy)]
 pub struct Cell {
     pub some: bool,
     pub objective: f64,

@@ -9,14 +9,14 @@ use slice::SviSlice;
 use surface::types::ShortExpiryPolicy;
 
 // The point before on the tau axis, where it did not fail.
-#[derive(Drop)]
+#[derive(Clone, Copy)]
 pub struct Previous {
     pub found: bool,
     pub tau: f64,
     pub w: f64,
 }
 
-#[derive(Drop)]
+#[derive(Clone, Copy)]
 pub struct Walk {
     pub butterfly: Check,
     pub slope: Check,

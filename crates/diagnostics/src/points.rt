@@ -6,7 +6,7 @@ use point::Total;
 use slice::SviSlice;
 use surface::types::ShortExpiryPolicy;
 
-#[derive(Drop)]
+#[derive(Clone, Copy)]
 pub enum Seen {
     Good { g: f64, w: f64, w_tau: f64 },
     Failed(u32),

@@ -8,7 +8,7 @@ use surface::types::{Run, ShortExpiryPolicy};
 
 // A value counts as a violation only below minus its tolerance.
 #[repr(C)]
-#[derive(Drop)]
+#[derive(Clone, Copy)]
 pub struct DiagnosticsConfig {
     pub butterfly_tolerance: f64,
     pub calendar_tolerance: f64,
@@ -27,7 +27,7 @@ impl DiagnosticsConfig {
 
 // The tallies, and how many failures stand in the room.
 #[repr(C)]
-#[derive(Drop)]
+#[derive(Clone, Copy)]
 pub struct SurfaceDiagnostics {
     pub butterfly: Check,
     pub calendar_slope: Check,
@@ -47,7 +47,7 @@ impl SurfaceDiagnostics {
     }
 }
 
-#[derive(Drop)]
+#[derive(Clone, Copy)]
 pub enum Diagnosed {
     Done(SurfaceDiagnostics),
     Refused(u32),

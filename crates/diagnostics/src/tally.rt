@@ -4,7 +4,7 @@ ghost use Rattle.diagnostics.specs.Tally.{one_more, worse_of, recorded_of, no_ch
 
 // One grid point and the checked value there. For a gap, tau is the earlier one.
 #[repr(C)]
-#[derive(Drop)]
+#[derive(Clone, Copy)]
 pub struct DiagnosticPoint {
     pub k: f64,
     pub tau: f64,
@@ -12,14 +12,14 @@ pub struct DiagnosticPoint {
 }
 
 #[repr(C)]
-#[derive(Drop)]
+#[derive(Clone, Copy)]
 pub struct Worst {
     pub found: bool,
     pub at: DiagnosticPoint,
 }
 
 #[repr(C)]
-#[derive(Drop)]
+#[derive(Clone, Copy)]
 pub struct Check {
     pub points: usize,
     pub violations: usize,

@@ -1,8 +1,9 @@
 // Replays lists of outside answers. Each file that the arguments name has lines of a function's name (sqrt, hypot, ln, exp), its arguments and its answer, each of
 // these 16 hexadecimal digits; of each file the program writes how many lines have the answer that the function gives, and of how many, if not of all.
+#![tactic(auto)]
 
 // The line so far: its name's letters, its spaces, and its last three words; and how many lines before it there were, and how many of them agreed.
-#[derive(Drop)]
+#[derive(Clone, Copy)]
 struct Reading {
     name: u64,
     spaces: u64,

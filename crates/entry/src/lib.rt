@@ -1,4 +1,6 @@
 // The entry checks of the fit that come before the weights, and the range of k. Nothing is fitted here.
+#![tactic(auto)]
+
 ghost use Rattle.std.specs.Prelude.{◌≡◌, length};
 ghost use Rattle.entry.specs.Entry.{lengths_hold, columns_pass, range_of, span_of, checks_number};
 

@@ -1,4 +1,6 @@
 // exp and ln of binary64 by fixed rounded steps (docs/ELEMENTARY.md).
+#![tactic(auto)]
+
 ghost use Rattle.std.specs.Prelude.{◌≡◌, ◌<◌, ◌≤◌, not, T, is_nan};
 ghost use Rattle.std.specs.Float.Ieee.{lt};
 ghost use Rattle.exponent.specs.Steps.{c746, corrected_of};
@@ -57,8 +59,8 @@ fn kernel(x: f64, y: f64) -> f64
 
 // How many times ln 2 goes into a.
 fn turns(a: f64) -> u64
-    requires t { T (lt edge a) }
-    requires t_2 { T (not (lt c746 a)) }
+    requires above_edge { T (lt edge a) }
+    requires at_most_746 { T (not (lt c746 a)) }
     ensures { result ≡ turns_of a }
 {
     std::num::truncating_f64_to_u64(a * 1.4426950408889634 + 0.5)
@@ -90,8 +92,8 @@ fn pow2(b: u64) -> f64
 
 // e ^ a, for an a from 0.3466 to 746.
 fn grown(a: f64) -> f64
-    requires t { T (lt edge a) }
-    requires t_2 { T (not (lt c746 a)) }
+    requires above_edge { T (lt edge a) }
+    requires at_most_746 { T (not (lt c746 a)) }
     ensures { result ≡ grown_of a }
 {
     let n = turns(a);
@@ -102,8 +104,8 @@ fn grown(a: f64) -> f64
 
 // e ^ -a, for the same a.
 fn shrunk(a: f64) -> f64
-    requires t { T (lt edge a) }
-    requires t_2 { T (not (lt c746 a)) }
+    requires above_edge { T (lt edge a) }
+    requires at_most_746 { T (not (lt c746 a)) }
     ensures { result ≡ shrunk_of a }
 {
     let n = turns(a);

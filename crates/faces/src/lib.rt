@@ -1,10 +1,12 @@
 // The faces in their order: sets of constraints, by size, then in dictionary order, each worked out from the one before.
+#![tactic(auto)]
+
 ghost use Rattle.std.specs.Prelude.{◌≡◌};
 ghost use Rattle.faces.specs.Faces.{member_of, face_marks};
 ghost use Rattle.faces.specs.Next.{after_one, after_two, after_three, next_of};
 
 // A face: how many of its constraints are held, and which, rising; what is not used is 0.
-#[derive(Drop)]
+#[derive(Clone, Copy)]
 pub struct Face {
     pub size: usize,
     pub a: usize,

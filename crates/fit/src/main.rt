@@ -1,4 +1,6 @@
 // Reads a house file from standard input and writes its answer. The largest file has 8,300 bytes, so one more shows that a file is longer, and no answer takes more than 24,768.
+#![tactic(auto)]
+
 fn main() {
     let mut file = [0u8; 8301];
     let n = io::read_full(0, &mut file);

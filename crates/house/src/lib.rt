@@ -1,4 +1,6 @@
 // The house file, and records as they stand in it. Nothing is copied out of the bytes but what is kept: counts and places say where each value stands. Every public function answers on every byte string.
+#![tactic(auto)]
+
 ghost use Rattle.std.specs.Prelude.{◌≡◌, ◌&&◌, map, ◌+◌, ◌*◌, ◌/◌, ◌≤◌, ◌<◌, leb, length};
 ghost use Rattle.laws.specs.Room.{at_front};
 ghost use Rattle.house.specs.File.{house_of, f64_at, tau_of, settings_at, config_of, quote_at, quotes, records_of};
@@ -10,14 +12,14 @@ ghost use Rattle.house.specs.Taken.{intake_number, taken_of};
 use records::FitConfig;
 
 // How many settings records (0 or 1) and how many observations a well-formed file has.
-#[derive(Drop)]
+#[derive(Clone, Copy)]
 pub enum House {
     Malformed,
     File { settings: usize, count: usize },
 }
 
 // A record as the file has it: the quote number, and the bits of three floats.
-#[derive(Drop)]
+#[derive(Clone, Copy)]
 pub struct Quote {
     pub number: u64,
     pub k: u64,

@@ -1,4 +1,6 @@
 // A slice judged on observations: the fitted w and the vol residual at each, their sums, objective_params and rmse. Nothing is searched here.
+#![tactic(auto)]
+
 ghost use Rattle.std.specs.Prelude.{◌≡◌, length};
 ghost use Rattle.slice.specs.Slice.{eval_raw};
 ghost use Rattle.judge.specs.Judge.{reading_of, residual_at, added_to, sums_of, matched_of, matched_sums, highest_of, params_hold, rmse_of, rmse_holds};
@@ -7,14 +9,14 @@ use records::FitConfig;
 use slice::{Evaluated, SviSlice};
 
 // Whether a slice evaluates, and the fitted w.
-#[derive(Drop)]
+#[derive(Clone, Copy)]
 pub struct Reading {
     pub ok: bool,
     pub w: f64,
 }
 
 // Of one observation: whether the slice evaluates there, the fitted w, and the observed minus the fitted volatility.
-#[derive(Drop)]
+#[derive(Clone, Copy)]
 pub struct Residual {
     pub ok: bool,
     pub fitted: f64,
@@ -22,7 +24,7 @@ pub struct Residual {
 }
 
 // Over the observations: whether the slice evaluates, the squares of the vol residuals, objective_params, the total weight.
-#[derive(Drop)]
+#[derive(Clone, Copy)]
 pub struct Sums {
     pub ok: bool,
     pub squares: f64,

@@ -9,7 +9,6 @@ pub mod Comparing
 pub mod Patterns
 pub mod Values
 pub mod Rooms
-pub mod Calling
 pub mod Near
 pub mod Rounded
 pub mod Ops

@@ -1,4 +1,6 @@
 // A surface lent as a run of slice records that a caller may have written. Each entry copies the run, and a function by value does the work; nothing is judged here.
+#![tactic(auto)]
+
 ghost use Rattle.std.specs.Prelude.{◌≡◌};
 ghost use Rattle.surface.specs.Runs.{run_of, check_run};
 ghost use Rattle.surface.specs.Surface.{bracket_run, region_run, total_run, covers_run};

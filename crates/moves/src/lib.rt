@@ -1,4 +1,6 @@
 // The points of an axis, and the moves of the window between two passes of the search: the best of the passes so far, and the next window.
+#![tactic(auto)]
+
 pub mod points;
 
 ghost use Rattle.std.specs.Prelude.{◌≡◌, ◌-◌, ◌<◌};
@@ -9,7 +11,7 @@ use records::Counts;
 
 // One axis of a window.
 #[repr(C)]
-#[derive(Drop)]
+#[derive(Clone, Copy)]
 pub struct Axis {
     pub lo: f64,
     pub hi: f64,
@@ -17,14 +19,14 @@ pub struct Axis {
 
 // A window of the domain: m, and ln sigma.
 #[repr(C)]
-#[derive(Drop)]
+#[derive(Clone, Copy)]
 pub struct Window {
     pub m: Axis,
     pub s: Axis,
 }
 
 // The best cell of a pass so far, with its place, how many cells and faces the pass has tried, and how many entries their eliminations updated.
-#[derive(Drop)]
+#[derive(Clone, Copy)]
 pub struct PassBest {
     pub cell: Cell,
     pub i: usize,
@@ -36,7 +38,7 @@ pub struct PassBest {
 
 // The best cell of all passes, where it stands, and whether that is an edge of its pass's grid.
 #[repr(C)]
-#[derive(Drop)]
+#[derive(Clone, Copy)]
 pub struct Found {
     pub cell: Cell,
     pub m: f64,
@@ -45,7 +47,7 @@ pub struct Found {
 }
 
 // Where a pass's best stands, whether that is an edge beyond which the domain goes on, along each axis, and whether it is any edge.
-#[derive(Drop)]
+#[derive(Clone, Copy)]
 pub struct Place {
     pub m: f64,
     pub ls: f64,
@@ -56,7 +58,7 @@ pub struct Place {
 
 // The settings of the search, its domain, and half the domain's width along each axis.
 #[repr(C)]
-#[derive(Drop)]
+#[derive(Clone, Copy)]
 pub struct Plan {
     pub n: usize,
     pub refinements: usize,
@@ -68,7 +70,7 @@ pub struct Plan {
 
 // The state of the search between passes.
 #[repr(C)]
-#[derive(Drop)]
+#[derive(Clone, Copy)]
 pub struct Search {
     pub going: bool,
     pub refused: bool,

@@ -1,4 +1,6 @@
 // What a file, or quotes as they came in, come to: number, counts, slice, residuals, without a word of text. For every byte string and every room.
+#![tactic(auto)]
+
 ghost use Rattle.std.specs.Prelude.{◌≡◌, ◌≤◌, length, take};
 ghost use Rattle.laws.specs.Room.{written};
 ghost use Rattle.calibrate.specs.Fit.{Fitted};
@@ -10,7 +12,7 @@ ghost use Rattle.outcome.specs.Outcome.{refused_at, quotes_outcome, bytes_outcom
 use house::House;
 use records::{FitAnswer, FitConfig};
 
-#[derive(Drop)]
+#[derive(Clone, Copy)]
 pub struct Outcome {
     // How many records came in, and how many are kept.
     pub read: usize,

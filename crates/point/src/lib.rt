@@ -1,10 +1,12 @@
 // A point of a surface, and the total variance there.
+#![tactic(auto)]
+
 ghost use Rattle.std.specs.Prelude.{◌≡◌};
 ghost use Rattle.point.specs.Point.{point_number, total_number, total_of};
 
 // Total implied variance w at one point, with dw/dk, d2w/dk2 and dw/dtau.
 #[repr(C)]
-#[derive(Drop)]
+#[derive(Clone, Copy)]
 pub struct TotalVariance {
     pub w: f64,
     pub w_k: f64,
@@ -12,7 +14,7 @@ pub struct TotalVariance {
     pub w_tau: f64,
 }
 
-#[derive(Drop)]
+#[derive(Clone, Copy)]
 pub enum Total {
     At(TotalVariance),
     Refused(u32),

@@ -1,4 +1,6 @@
 // The seven constraints g x <= h on x = (a, d, c), in the order of calibrate.rs: c >= 0, d <= c, -d <= c, d + c <= 2 sigma, c - d <= 2 sigma, a >= a_min, a <= a_max.
+#![tactic(auto)]
+
 ghost use Rattle.std.specs.Prelude.{◌≡◌};
 ghost use Rattle.polytope.specs.Polytope.{rows_of, bounds_of, spread_of, dot_of, feasible_of};
 

@@ -1,4 +1,6 @@
 // What C and Rust link: nothing but calls. They take and return numbers and pointers alone: a record crosses as rows of numbers, which every machine and language reads alike.
+#![tactic(auto)]
+
 pub mod abi; // abi.rt: the number of this interface
 pub mod elementary; // elementary.rt: square root, hypotenuse, ln, exp
 pub mod slices; // slices.rt: one slice

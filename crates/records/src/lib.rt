@@ -1,4 +1,6 @@
 // The records of the fit, and what is asked of one alone: settings, observations, counts, answers. Nothing is fitted here.
+#![tactic(auto)]
+
 ghost use Rattle.std.specs.Prelude.{◌≡◌};
 ghost use Rattle.laws.specs.Floats.{positive};
 ghost use Rattle.records.specs.Settings.{defaults_of, settings_hold, sizes_hold};
@@ -9,7 +11,7 @@ use slice::{KRange, SviSlice};
 
 // Settings of the slice fit.
 #[repr(C)]
-#[derive(Drop)]
+#[derive(Clone, Copy)]
 pub struct FitConfig {
     pub grid: usize,
     pub refinements: usize,
@@ -26,14 +28,14 @@ pub struct FitConfig {
 
 // One observed point of a slice.
 #[repr(C)]
-#[derive(Drop)]
+#[derive(Clone, Copy)]
 pub struct SliceObservation {
     pub k: f64,
     pub w: f64,
     pub weight: f64,
 }
 
-#[derive(Drop)]
+#[derive(Clone, Copy)]
 pub enum Observed {
     At(SliceObservation),
     Refused(u32),
@@ -41,7 +43,7 @@ pub enum Observed {
 
 // What the search did; `updates` are the entries that the eliminations of its faces' systems update.
 #[repr(C)]
-#[derive(Drop)]
+#[derive(Clone, Copy)]
 pub struct Counts {
     pub passes: usize,
     pub recentres: usize,
@@ -53,7 +55,7 @@ pub struct Counts {
 
 // What a fit hands back: a fitted slice and how it was found, or a refusal.
 #[repr(C)]
-#[derive(Drop)]
+#[derive(Clone, Copy)]
 pub struct FitAnswer {
     // 0 for an accepted fit, else the refusal.
     pub number: u32,

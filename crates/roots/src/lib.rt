@@ -1,4 +1,6 @@
 // The square root of an f64 and the length of two, worked out from their bits and rounded once, to the nearest, ties to even.
+#![tactic(auto)]
+
 pub mod lengths; // lengths.rt: the hypotenuses of many numbers with 1
 mod near; // near.rt: a float near a root, and the test that it is the nearest
 mod pattern; // pattern.rt: a bit pattern's parts, and a root rounded into a pattern

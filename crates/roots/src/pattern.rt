@@ -7,7 +7,7 @@ ghost use Rattle.roots.specs.Root.{root_units, sq};
 ghost use Rattle.roots.specs.Inner.{Between, IsAbove, IsLeast, IsGreatest};
 
 // The significand of a pattern with the sign clear, and its exponent from the smallest value's.
-#[derive(Drop)]
+#[derive(Clone, Copy)]
 pub(crate) struct Parts {
     pub(crate) m: u64,
     pub(crate) e: u64,
@@ -27,7 +27,7 @@ pub(crate) fn parts_of(b: u64) -> Parts
 }
 
 // A number shifted up until it has 53 digits, and by how much.
-#[derive(Drop)]
+#[derive(Clone, Copy)]
 pub(crate) struct Shifted {
     pub(crate) m: u64,
     pub(crate) by: u64,

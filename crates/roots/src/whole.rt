@@ -6,7 +6,7 @@ ghost use Rattle.roots.specs.Inner.{RootPair, Between};
 use crate::wide::{joined, square};
 
 // A whole root and what is left: n = root * root + rem.
-#[derive(Drop)]
+#[derive(Clone, Copy)]
 pub(crate) struct Root {
     pub(crate) root: u64,
     pub(crate) rem: u64,
@@ -108,7 +108,7 @@ pub(crate) fn wide_root(hi: u64, lo: u64) -> Root
 }
 
 // A whole root, and a number that is 0 where it is exact.
-#[derive(Drop)]
+#[derive(Clone, Copy)]
 pub(crate) struct Near {
     pub(crate) root: u64,
     pub(crate) more: u64,

@@ -3,7 +3,7 @@ ghost use Rattle.std.specs.Prelude.{◌≡◌, ◌+◌, ◌*◌, ◌^◌, ◌≤
 ghost use Rattle.roots.specs.Root.{sq};
 
 // hi * 2 ^ 54 + lo
-#[derive(Drop)]
+#[derive(Clone, Copy)]
 pub(crate) struct Wide {
     pub(crate) hi: u64,
     pub(crate) lo: u64,
@@ -25,7 +25,7 @@ pub(crate) fn square(q: u64) -> Wide
 }
 
 // A wide number and the digits that were cut off below it.
-#[derive(Drop)]
+#[derive(Clone, Copy)]
 pub(crate) struct Cut {
     pub(crate) hi: u64,
     pub(crate) lo: u64,

@@ -8,14 +8,14 @@ use diagnostics::tally::{Check, DiagnosticPoint, Worst};
 use point::{Total, TotalVariance};
 use surface::types::{Bracket, Covered, Region, Run, ShortExpiryPolicy};
 
-#[derive(Drop)]
+#[derive(Clone, Copy)]
 pub struct TotalAnswer {
     pub number: u32,
     pub total: TotalVariance,
 }
 
 // Two positions and the weight of hi; or `below`, the first slice alone.
-#[derive(Drop)]
+#[derive(Clone, Copy)]
 pub struct BracketAnswer {
     pub number: u32,
     pub below: bool,
@@ -24,19 +24,19 @@ pub struct BracketAnswer {
     pub x: f64,
 }
 
-#[derive(Drop)]
+#[derive(Clone, Copy)]
 pub struct RegionAnswer {
     pub number: u32,
     pub calibrated: bool,
 }
 
-#[derive(Drop)]
+#[derive(Clone, Copy)]
 pub struct CoversAnswer {
     pub number: u32,
     pub all: bool,
 }
 
-#[derive(Drop)]
+#[derive(Clone, Copy)]
 pub struct DiagnosedAnswer {
     pub number: u32,
     pub report: SurfaceDiagnostics,

@@ -35,25 +35,25 @@ pub fn read_slice(row: &[f64; 8]) -> SviSlice
 
 // ---- one record for each enum
 
-#[derive(Drop)]
+#[derive(Clone, Copy)]
 pub struct RangeAnswer {
     pub number: u32,
     pub range: KRange,
 }
 
-#[derive(Drop)]
+#[derive(Clone, Copy)]
 pub struct SliceAnswer {
     pub number: u32,
     pub slice: SviSlice,
 }
 
-#[derive(Drop)]
+#[derive(Clone, Copy)]
 pub struct LevelAnswer {
     pub number: u32,
     pub value: f64,
 }
 
-#[derive(Drop)]
+#[derive(Clone, Copy)]
 pub struct ValuesAnswer {
     pub number: u32,
     pub w: f64,

@@ -1,4 +1,6 @@
 // A house file in, the whole printed answer out, for every byte string and every room.
+#![tactic(auto)]
+
 ghost use Rattle.std.specs.Prelude.{◌≡◌, ◌≤◌, length};
 ghost use Rattle.text.specs.Place.{placed, longest};
 ghost use Rattle.run.specs.Answer.{answer_of};

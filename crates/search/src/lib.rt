@@ -1,4 +1,6 @@
 // The outer part of fit_slice: passes over the grid of a window, and the move of the window after each.
+#![tactic(auto)]
+
 mod grid;
 
 ghost use Rattle.std.specs.Prelude.{◌≡◌, true, ◌^◌, ◌<◌};

@@ -1,16 +1,18 @@
 // Raw SVI slices by value: the five numbers of a slice travel with tau and its k range.
+#![tactic(auto)]
+
 ghost use Rattle.std.specs.Prelude.{◌≡◌};
 ghost use Rattle.slice.specs.Slice.{holds_k, range_number, ranged_of, lowest_of, lee_of, domain_number, number_of, made_of, wing_of, across_of, along_of, values_of, judged_of, eval_raw, minimum_of, lee_slope_of, eval_of, three_finite};
 
 #[repr(C)]
-#[derive(Drop)]
+#[derive(Clone, Copy)]
 pub struct KRange {
     pub lo: f64,
     pub hi: f64,
 }
 
 #[repr(C)]
-#[derive(Drop)]
+#[derive(Clone, Copy)]
 pub struct SviSlice {
     pub tau: f64,
     pub a: f64,
@@ -22,39 +24,39 @@ pub struct SviSlice {
 }
 
 // w, dw/dk and d2w/dk2 at a point.
-#[derive(Drop)]
+#[derive(Clone, Copy)]
 pub struct Values {
     pub w: f64,
     pub w_k: f64,
     pub w_kk: f64,
 }
 
-#[derive(Drop)]
+#[derive(Clone, Copy)]
 pub enum Ranged {
     Range(KRange),
     Refused(u32),
 }
 
-#[derive(Drop)]
+#[derive(Clone, Copy)]
 pub enum Made {
     Slice(SviSlice),
     Refused(u32),
 }
 
-#[derive(Drop)]
+#[derive(Clone, Copy)]
 pub enum Level {
     Value(f64),
     Refused(u32),
 }
 
-#[derive(Drop)]
+#[derive(Clone, Copy)]
 pub enum Evaluated {
     At(Values),
     Refused(u32),
 }
 
 // The two factors of a slice's formula: the level over b, and the slope over b.
-#[derive(Drop)]
+#[derive(Clone, Copy)]
 struct Wing {
     level: f64,
     slope: f64,

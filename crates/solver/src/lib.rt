@@ -1,5 +1,7 @@
 // Gaussian elimination with partial pivoting: `solve_linear` of calibrate.rs, for any size up to 6.
 // The matrix is 6 by 6, row by row, of which the first n rows and columns count.
+#![tactic(auto)]
+
 mod rows;
 
 ghost use Rattle.std.specs.Prelude.{◌≡◌, ◌+◌, ◌≤◌, ◌<◌};
@@ -9,7 +11,7 @@ ghost use Rattle.solver.specs.Rows.{NotBelowZero, placed_row, placed_of, front_o
 
 // The unknowns, and whether there is a solution; what is no unknown is 0. The six numbers come first: behind the bool they would be copied from an odd address.
 // `updates` is how many entries of the matrix the elimination as defined updates, also one that is refused: it is the same whichever way the code takes.
-#[derive(Drop)]
+#[derive(Clone, Copy)]
 pub struct Solved {
     pub x: [f64; 6],
     pub ok: bool,

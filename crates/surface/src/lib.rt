@@ -1,4 +1,6 @@
 // A surface of slices, as a run of records by value: copied from what a caller lends, tested, and asked. Crate `lent` has the entries over the records themselves.
+#![tactic(auto)]
+
 pub mod types; // what the functions take and hand back
 pub mod axis; // the two axes of a diagnostic grid
 pub mod run; // a copied run, and its tests

@@ -5,14 +5,14 @@ ghost use Rattle.surface.specs.Lookup.{default_policy};
 use slice::SviSlice;
 
 // A lent run of slice records, copied: how many there are, and the first 32.
-#[derive(Drop)]
+#[derive(Clone, Copy)]
 pub struct Run {
     pub count: usize,
     pub recs: [SviSlice; 32],
 }
 
 // What stands below the first expiry.
-#[derive(Drop)]
+#[derive(Clone, Copy)]
 pub enum ShortExpiryPolicy {
     Reject,
     ConstantVol,
@@ -27,7 +27,7 @@ impl ShortExpiryPolicy {
 }
 
 // The slices that answer a query at tau: two positions and the weight of hi; or the first alone.
-#[derive(Drop)]
+#[derive(Clone, Copy)]
 pub enum Bracket {
     Short,
     Segment { lo: usize, hi: usize, x: f64 },
@@ -35,7 +35,7 @@ pub enum Bracket {
 }
 
 // Whether a point is backed by calibrated data.
-#[derive(Drop)]
+#[derive(Clone, Copy)]
 pub enum Region {
     Calibrated,
     Extrapolated,
@@ -43,7 +43,7 @@ pub enum Region {
 }
 
 // Whether the tau axis of a grid holds every node.
-#[derive(Drop)]
+#[derive(Clone, Copy)]
 pub enum Covered {
     All,
     NotAll,

@@ -1,5 +1,7 @@
 // The answers of the fit program as text, each for every input: a text is written whole at the front of the room where the room holds it, else nothing is, and how long it is comes back.
 // It is never held in whole: it is measured first, on one byte, and then written where it is to stand.
+#![tactic(auto)]
+
 use records::FitAnswer;
 
 mod digits; // digits.rt: bytes and numbers

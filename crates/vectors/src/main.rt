@@ -1,4 +1,6 @@
 // Replays stored house files. The arguments are pairs: a house file, and the Rust's answer to it. For each pair, whether the port's answer has the same bytes.
+#![tactic(auto)]
+
 ghost use Rattle.std.specs.Prelude.{◌≡◌, true, ◌+◌, ◌≤◌, ◌<◌};
 ghost use Rattle.io.specs.Counts.{IsPrefixLen};
 

@@ -1,10 +1,12 @@
 // Step 3 of the fit: the median weight, the cap, and the weights capped and scaled so that the largest is 1.
+#![tactic(auto)]
+
 ghost use Rattle.std.specs.Prelude.{◌≡◌, map, ◌++◌, ◌+◌, ◌≤◌, ◌<◌, length, take, drop};
 ghost use Rattle.laws.specs.Room.{at_front};
 ghost use Rattle.weights.specs.Weights.{insert_of, sort_of, mid_of, top_of, scale_one, scaled_of, good_first, weighed, weights_of, scaled_in};
 
 // What step 3 hands on beside the scaled weights, which stand in lent room: whether each of them is finite and positive, and the cap.
-#[derive(Drop)]
+#[derive(Clone, Copy)]
 pub struct Weights {
     pub ok: bool,
     pub cap: f64,

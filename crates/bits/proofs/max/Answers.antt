@@ -1,0 +1,8 @@
+-- `bits::max` meets its contract. Assumes nothing.
+use Rattle.laws.specs.Floats.{max_of}
+use borrow.Author.Rules.{rules}
+use Rattle.bits.proofs.max.Goals as goal
+
+pub returns : goal.returns
+unfolding max_of
+returns c = c.pick.ensures

@@ -1,0 +1,8 @@
+-- `bits::min` meets its contract. Assumes nothing.
+use Rattle.laws.specs.Floats.{min_of}
+use borrow.Author.Rules.{rules}
+use Rattle.bits.proofs.min.Goals as goal
+
+pub returns : goal.returns
+unfolding min_of
+returns c = c.pick.ensures

@@ -1,0 +1,17 @@
+use Rattle.std.proofs.Common.{◌≡◌, ℕ, ◌-◌, ◌*◌, refl, arith, rules}
+use lib.Ieee.{Float}
+use Rattle.laws.specs.Loop.{for}
+use Rattle.laws.specs.Floats.{◌+f◌, ◌*f◌, ◌/f◌, num, two}
+use Rattle.laws.proofs.Loops.{again, ended}
+use Rattle.exponent.specs.Ln.{tail_of}
+use Rattle.exponent.proofs.tail.Goals as goal
+
+pub loop-j-init : goal.loop-j-init
+unfolding tail_of
+loop-j-init c = refl
+
+pub loop-j-preserved : goal.loop-j-preserved
+loop-j-preserved c = again _ _ _ c.loop-j-test.true refl c.loop-j.invariant
+
+pub returns : goal.returns
+returns c = ended _ _ _ c.loop-j-test.false c.loop-j.invariant

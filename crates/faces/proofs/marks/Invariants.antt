@@ -1,0 +1,19 @@
+-- `faces::marks` meets its contract. A member that is none of the seven marks nothing, as `set` beyond a list's end. Assumes nothing.
+use mathlib.Core.Path.{◌≡◌, refl, sym, ap, ◌∙◌}
+use mathlib.Core.Bool.{true}
+use mathlib.Core.Logic.{⊎_elim}
+use Prim.Native.Nat.{ℕ, ◌-◌}
+use native.Mathlib.Omega.{arith}
+use lib.ListN.{length, set, length-set}
+use lib.Seq.{set_out}
+use borrow.Author.Rules.{rules}
+use Rattle.laws.specs.Loop.{for}
+use Rattle.laws.proofs.Loops.{again, ended}
+use Rattle.faces.specs.Faces.{member_of, face_marks}
+use Rattle.faces.proofs.marks.Given as goal
+
+abbrev pub invariant-loop-s : goal.invariant-loop-s
+invariant-loop-s l = (length l.t ≡ 7) × (for l.s l.f.size (λ s t. set t (member_of l.f s) true) l.t ≡ face_marks l.f)
+
+abbrev pub decreases-loop-s : goal.decreases-loop-s
+decreases-loop-s l = l.f.size - l.s

@@ -1,0 +1,34 @@
+use mathlib.Core.Path.{◌≡◌, refl, sym, ap, ◌∙◌}
+use mathlib.Core.Bool.{true, ◌&&◌}
+use mathlib.Core.List.{List}
+use Prim.Native.Nat.{◌-◌}
+use native.Mathlib.Omega.{arith}
+use lib.Ieee.{Float, le}
+use borrow.Author.Tests.{not-true, not-false}
+use borrow.Author.Rules.{rules}
+use Rattle.laws.specs.Loop.{for}
+use Rattle.laws.specs.Floats.{◌-f◌, at}
+use Rattle.laws.proofs.Loops.{again, ended, halted}
+use Rattle.polytope.specs.Polytope.{rows_of, dot_of, feasible_of}
+use Rattle.polytope.proofs.feasible.Goals as goal
+
+pub loop-c-init : goal.loop-c-init
+unfolding feasible_of
+loop-c-init c = refl
+
+pub returns-then-not-dot-h : goal.returns-then-not-dot-h
+returns-then-not-dot-h c = let l = c.loop-c in
+    let a = c.args in
+    let d = c.dot.ensures ∙ ap (λ (g : List Float). dot_of g a.x.now l.c) c.rows-g.ensures in
+    let e = sym (not-true _ c.if-not-dot-h.true-raw) ∙ ap (λ (d : Float). le (d -f at a.h.now l.c) a.slack) d in
+    halted _ _ _ (λ j. refl) (again _ _ _ c.loop-c-test.true e l.invariant)
+
+pub loop-c-preserved : goal.loop-c-preserved
+loop-c-preserved c = let l = c.loop-c in
+    let a = c.args in
+    let d = c.dot.ensures ∙ ap (λ (g : List Float). dot_of g a.x.now l.c) c.rows-g.ensures in
+    let e = sym (not-false _ c.if-not-dot-h.false-raw) ∙ ap (λ (d : Float). le (d -f at a.h.now l.c) a.slack) d in
+    again _ _ _ c.loop-c-test.true e l.invariant
+
+pub returns : goal.returns
+returns c = ended _ _ _ c.loop-c-test.false c.loop-c.invariant

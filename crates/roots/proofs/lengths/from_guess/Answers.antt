@@ -1,0 +1,36 @@
+-- `roots::lengths::from_guess` meets its contract. Assumes nothing.
+use mathlib.Core.Path.{sym, ◌∙◌, ap, subst}
+use native.Mathlib.Nat.{add_comm}
+use lib.Dec.{T}
+use lib.Ieee.{binary64, fits}
+use Rattle.laws.proofs.Floats.{self_same}
+use Rattle.laws.proofs.Patterns.{below_nan}
+use Rattle.roots.specs.Root.{root_units}
+use Rattle.roots.proofs.AtPatterns.{beside_one}
+use borrow.Author.Rules.{rules}
+use Rattle.roots.proofs.lengths.from_guess.Reads as reads
+use Rattle.roots.proofs.lengths.from_guess.Lts as lts
+use Rattle.roots.proofs.hypot.Reads as hypot-reads
+use Rattle.roots.proofs.lengths.below_one.Reads as below-one-reads
+use Rattle.roots.proofs.lengths.from_one.Reads as from-one-reads
+use Rattle.roots.proofs.lengths.from_guess.Goals as goal
+
+pub float_to_bits-a : goal.float_to_bits-a
+float_to_bits-a c = self_same _ c.if-y.false
+
+pub float_to_bits-c : goal.float_to_bits-c
+float_to_bits-c c = self_same _ c.if-guess.false
+
+pub float_from_bits-result : goal.float_from_bits-result
+float_from_bits-result c = below_nan c.below_one.result c.below_one.ensures.0
+
+pub returns-then-a-lt4607182418800017408 : goal.returns-then-a-lt4607182418800017408
+returns-then-a-lt4607182418800017408 c = let held : T (fits binary64 c.args.y) = subst T (sym c.well_formed.0.1) tt in
+    c.below_one.ensures.1 ∙ ap root_units (add_comm _ _) ∙ beside_one c.args.y held c.if-a-ge9218868437227405312.false
+
+pub float_from_bits-result-2 : goal.float_from_bits-result-2
+float_from_bits-result-2 c = below_nan c.from_one.result c.from_one.ensures.0
+
+pub returns : goal.returns
+returns c = let held : T (fits binary64 c.args.y) = subst T (sym c.well_formed.0.1) tt in
+    c.from_one.ensures.1 ∙ beside_one c.args.y held c.if-a-ge9218868437227405312.false

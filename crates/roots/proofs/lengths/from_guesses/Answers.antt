@@ -1,0 +1,24 @@
+use mathlib.Core.Path.{◌≡◌, refl, ap}
+use Prim.Native.Nat.{◌-◌}
+use native.Mathlib.Omega.{arith}
+use lib.ListN.{set}
+use borrow.Author.Rules.{rules}
+use Rattle.laws.specs.Loop.{for}
+use Rattle.laws.specs.Floats.{one, at}
+use Rattle.laws.specs.Room.{filled_on}
+use Rattle.laws.proofs.Loops.{again, ended}
+use Rattle.roots.specs.Hypot.{hypot_of}
+use Rattle.roots.proofs.lengths.from_guesses.Reads as reads
+use Rattle.roots.proofs.lengths.from_guesses.Lts as lts
+use Rattle.roots.proofs.lengths.from_guess.Reads as from-guess-reads
+use Rattle.roots.proofs.lengths.from_guesses.Goals as goal
+
+pub loop-i-init : goal.loop-i-init
+unfolding filled_on
+loop-i-init c = refl
+
+pub loop-i-preserved : goal.loop-i-preserved
+loop-i-preserved c = again _ _ _ c.loop-i-test.true (ap (set c.loop-i.hs c.loop-i.i) c.from_guess.ensures) c.loop-i.invariant
+
+pub returns : goal.returns
+returns c = ended _ _ _ c.loop-i-test.false c.loop-i.invariant

@@ -1,0 +1,20 @@
+use mathlib.Core.Path.{◌≡◌, refl, ◌∙◌}
+use Prim.Native.Nat.{ℕ, ◌-◌}
+use native.Mathlib.Omega.{arith}
+use lib.Ieee.{Float}
+use borrow.Author.Rules.{rules}
+use Rattle.laws.specs.Room.{filled_on}
+use Rattle.laws.proofs.Rooms.{filled_over}
+use Rattle.roots.proofs.lengths.guesses.Reads as reads
+use Rattle.roots.proofs.lengths.guesses.Lts as lts
+use Rattle.roots.proofs.lengths.guess.Reads as guess-reads
+use Rattle.roots.proofs.lengths.guesses.Goals as goal
+
+pub loop-i-init : goal.loop-i-init
+loop-i-init c = λ v. refl
+
+pub loop-i-preserved : goal.loop-i-preserved
+loop-i-preserved c = λ v. filled_over v _ _ _ _ c.loop-i-test.true ∙ c.loop-i.invariant v
+
+pub returns : goal.returns
+returns c = c.loop-i.invariant

@@ -1,0 +1,16 @@
+-- `roots::near::near_digits` meets its contract: no pattern here is a NaN. Assumes nothing.
+use native.Mathlib.Omega.{arith}
+use Rattle.laws.proofs.Floats.{self_same}
+use Rattle.laws.proofs.Patterns.{below_nan}
+use borrow.Author.Rules.{rules}
+use Rattle.roots.proofs.near.near_digits.Reads as reads
+use Rattle.roots.proofs.near.near_digits.Lts as lts
+use Rattle.roots.proofs.near.inverse.Reads as inverse-reads
+use Rattle.roots.proofs.near.refined.Reads as refined-reads
+use Rattle.roots.proofs.near.near_digits.Goals as goal
+
+pub float_from_bits-x : goal.float_from_bits-x
+float_from_bits-x c = below_nan _ (omega arith)
+
+pub float_to_bits-result : goal.float_to_bits-result
+float_to_bits-result c = self_same _ c.if-h.false

@@ -1,7 +1,0 @@
--- `solver::refused` meets its contract. Assumes nothing.
-use mathlib.Core.Path.{refl}
-use Rattle.solver.proofs.refused.Statement.{statement}
-use Rattle.solver.proofs.refused.Tie as tie
-
-pub refused-spec : {M : Type 1} → statement M
-refused-spec = tie.close (tie.spec (λ c. refl))

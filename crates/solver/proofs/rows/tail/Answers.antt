@@ -1,0 +1,14 @@
+use mathlib.Core.Path.{refl}
+use Rattle.solver.specs.Rows.{tail_in}
+use Rattle.laws.proofs.Loops.{again, ended}
+use Rattle.solver.proofs.rows.tail.Goals as goal
+
+pub loop-j-init : goal.loop-j-init
+unfolding tail_in
+loop-j-init c = refl
+
+pub loop-j-preserved : goal.loop-j-preserved
+loop-j-preserved c = again _ _ _ c.loop-j-test.true refl c.loop-j.invariant
+
+pub returns : goal.returns
+returns c = ended _ _ _ c.loop-j-test.false c.loop-j.invariant

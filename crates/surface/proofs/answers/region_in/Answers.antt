@@ -1,0 +1,24 @@
+-- `surface::answers::region_in` meets its contract. Assumes nothing.
+use Rattle.surface.specs.Surface.{region_by}
+use Rattle.surface.proofs.Passed.{places}
+use mathlib.Core.Path.{◌∙◌, ap}
+use native.Mathlib.Omega.{arith}
+use Rattle.surface.proofs.answers.region_in.Goals as goal
+
+pub offset_bounds-recs-lo : goal.offset_bounds-recs-lo
+offset_bounds-recs-lo c = omega (arith, (places _ c.in-Segment.is c.requires).0)
+
+pub bounds-recs-lo : goal.bounds-recs-lo
+bounds-recs-lo c = (places _ c.in-Segment.is c.requires).0
+
+pub offset_bounds-recs-hi : goal.offset_bounds-recs-hi
+offset_bounds-recs-hi c = omega (arith, (places _ c.in-Segment.is c.requires).1)
+
+pub bounds-recs-hi : goal.bounds-recs-hi
+bounds-recs-hi c = (places _ c.in-Segment.is c.requires).1
+
+pub returns-in-Refused : goal.returns-in-Refused
+returns-in-Refused c = rw c.in-Refused.is
+
+pub returns-in-Segment : goal.returns-in-Segment
+returns-in-Segment c = rw c.in-Segment.is (c.region_by.ensures ∙ ap region_by c.both_hold.ensures)

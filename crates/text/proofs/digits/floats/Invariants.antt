@@ -1,0 +1,17 @@
+-- `text::digits::floats` meets its contract. Assumes nothing.
+use native.Mathlib.Omega.{arith}
+use Prim.Native.Nat.{ℕ, ◌+◌, ◌*◌, ◌-◌, ◌≤◌}
+use mathlib.Core.Path.{◌≡◌, refl, ap}
+use mathlib.Core.List.{List}
+use lib.Ieee.{Float, to_bits, binary64}
+use lib.ListN.{length, take}
+use Rattle.text.specs.Place.{Wrote}
+use Rattle.text.specs.Digits.{hex_of, floats_of, each}
+use Rattle.text.proofs.Writing.{wrote_none, wrote_long, each_more, each_done}
+use Rattle.text.proofs.digits.floats.Given as goal
+
+abbrev pub invariant-loop-j : goal.invariant-loop-j
+invariant-loop-j l = (l.j ≤ length l.xs) × (l.p ≤ l.at + 17 * l.j) × (length l.out ≡ length l.initial.out) × Wrote l.initial.out l.out l.at l.p (floats_of (take l.j l.xs))
+
+abbrev pub decreases-loop-j : goal.decreases-loop-j
+decreases-loop-j l = length l.xs - l.j

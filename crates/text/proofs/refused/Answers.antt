@@ -1,0 +1,12 @@
+-- `text::refused` meets its contract. Assumes nothing.
+use borrow.Author.Rules.{rules}
+use Rattle.text.proofs.Writing.{handed, withheld}
+use Rattle.text.proofs.refused.Goals as goal
+
+pub returns-then-holds : goal.returns-then-holds
+returns-then-holds c = let h = handed c.refused-size.ensures.wrote c.holds.ensures c.if-holds.true c.refused.ensures.wrote in
+    (h.0, (h.1, c.refused.ensures.upper_bound))
+
+pub returns : goal.returns
+returns c = let h = withheld c.refused-size.ensures.wrote c.args.out.now c.holds.ensures c.if-holds.false in
+    (h.0, (h.1, c.refused-size.ensures.upper_bound))
