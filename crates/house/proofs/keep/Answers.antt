@@ -51,4 +51,4 @@ returns c = let a = c.args in
     let hw : c.loop-i.m ≤ length c.loop-i.w = omega arith in
     let hz : c.loop-i.m ≤ length c.loop-i.weight = omega arith in
     let k = column_end k_of _ _ _ _ _ hk e c.loop-i.invariant.2 in
-    (k.0, (k.1, ((column_end w_of _ _ _ _ _ hw e c.loop-i.invariant.3).1, (column_end weight_of _ _ _ _ _ hz e c.loop-i.invariant.4).1)))
+    let rest = (k.1, ((column_end w_of _ _ _ _ _ hw e c.loop-i.invariant.3).1, (column_end weight_of _ _ _ _ _ hz e c.loop-i.invariant.4).1)) in record { value = k.0; k_after = rest.0; w_after = rest.1; weight_after = rest.2 }

@@ -11,7 +11,7 @@ use Rattle.house.proofs.take.Goals as goal
 
 pub returns-then-not-enough : goal.returns-then-not-enough
 returns-then-not-enough c = let none = stops _ c.columns_hold-enough.ensures c.if-not-enough.true-raw refl ∙ taken_is c.args.s.now (length c.args.k.now) (length c.args.w.now) (length c.args.weight.now) in
-    (ap length none, (column_none k_of _ _ none, (column_none w_of _ _ none, column_none weight_of _ _ none)))
+    let rest = (column_none k_of _ _ none, (column_none w_of _ _ none, column_none weight_of _ _ none)) in record { value = ap length none; k_after = rest.0; w_after = rest.1; weight_after = rest.2 }
 
 pub keep-requires : goal.keep-requires
 keep-requires c = let r = columns_room _ _ _ _ _ c.columns_hold-enough.ensures c.if-not-enough.false-raw in
@@ -20,4 +20,4 @@ keep-requires c = let r = columns_room _ _ _ _ _ c.columns_hold-enough.ensures c
 pub returns : goal.returns
 returns c = let e = c.keep.ensures in
     let all = goes [] c.columns_hold-enough.ensures c.if-not-enough.false-raw refl ∙ taken_is c.args.s.now (length c.args.k.now) (length c.args.w.now) (length c.args.weight.now) in
-    (e.0 ∙ ap length all, (column_took k_of _ _ _ _ all e.1.0, (column_took w_of _ _ _ _ all e.1.1.0, column_took weight_of _ _ _ _ all e.1.1.1)))
+    let rest = (column_took k_of _ _ _ _ all e.1.0, (column_took w_of _ _ _ _ all e.1.1.0, column_took weight_of _ _ _ _ all e.1.1.1)) in record { value = e.0 ∙ ap length all; k_after = rest.0; w_after = rest.1; weight_after = rest.2 }

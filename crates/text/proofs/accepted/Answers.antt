@@ -32,9 +32,9 @@ accepted-requires c = sizes c.args.residuals.now c.args.capped.now (sym c.few-si
 pub returns-then-holds : goal.returns-then-holds
 returns-then-holds c = let e = accepted_full _ _ _ c.args.residuals.now c.args.capped.now (sym c.few-sized.ensures ∙ not-false _ c.if-not-sized.false-raw) in
     let h = handed (wrote_as e c.accepted-size.ensures.wrote) c.holds.ensures c.if-holds.true (wrote_as e c.accepted.ensures.wrote) in
-    (h.0, (h.1, c.accepted.ensures.upper_bound))
+    let rest = (h.1, c.accepted.ensures.upper_bound) in record { value = h.0; out_after = rest.0; upper_bound = rest.1 }
 
 pub returns : goal.returns
 returns c = let e = accepted_full _ _ _ c.args.residuals.now c.args.capped.now (sym c.few-sized.ensures ∙ not-false _ c.if-not-sized.false-raw) in
     let h = withheld (wrote_as e c.accepted-size.ensures.wrote) c.args.out.now c.holds.ensures c.if-holds.false in
-    (h.0, (h.1, c.accepted-size.ensures.upper_bound))
+    let rest = (h.1, c.accepted-size.ensures.upper_bound) in record { value = h.0; out_after = rest.0; upper_bound = rest.1 }

@@ -6,8 +6,8 @@ use Rattle.text.proofs.malformed.Goals as goal
 
 pub returns-then-holds : goal.returns-then-holds
 returns-then-holds c = let h = handed c.refused_line-size.ensures.wrote c.holds.ensures c.if-holds.true c.refused_line.ensures.wrote in
-    (h.0, (h.1, omega (arith, c.refused_line.ensures.upper_bound)))
+    let rest = (h.1, omega (arith, c.refused_line.ensures.upper_bound)) in record { value = h.0; out_after = rest.0; upper_bound = rest.1 }
 
 pub returns : goal.returns
 returns c = let h = withheld c.refused_line-size.ensures.wrote c.args.out.now c.holds.ensures c.if-holds.false in
-    (h.0, (h.1, omega (arith, c.refused_line-size.ensures.upper_bound)))
+    let rest = (h.1, omega (arith, c.refused_line-size.ensures.upper_bound)) in record { value = h.0; out_after = rest.0; upper_bound = rest.1 }

@@ -5,8 +5,8 @@ use Rattle.text.proofs.refused.Goals as goal
 
 pub returns-then-holds : goal.returns-then-holds
 returns-then-holds c = let h = handed c.refused-size.ensures.wrote c.holds.ensures c.if-holds.true c.refused.ensures.wrote in
-    (h.0, (h.1, c.refused.ensures.upper_bound))
+    let rest = (h.1, c.refused.ensures.upper_bound) in record { value = h.0; out_after = rest.0; upper_bound = rest.1 }
 
 pub returns : goal.returns
 returns c = let h = withheld c.refused-size.ensures.wrote c.args.out.now c.holds.ensures c.if-holds.false in
-    (h.0, (h.1, c.refused-size.ensures.upper_bound))
+    let rest = (h.1, c.refused-size.ensures.upper_bound) in record { value = h.0; out_after = rest.0; upper_bound = rest.1 }

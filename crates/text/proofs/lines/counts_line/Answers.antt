@@ -4,8 +4,5 @@ use native.Mathlib.Omega.{arith}
 use Rattle.text.proofs.Writing.{then}
 use Rattle.text.proofs.lines.counts_line.Goals as goal
 
-pub shape_of-out : goal.shape_of-out
-shape_of-out c = c.out-3-1.given ∙ c.out-2-1.given ∙ c.out-1.given
-
 pub returns : goal.returns
 returns c = record { wrote = then c.put_text-a.ensures (then c.counts-b.ensures.wrote c.put_text.ensures); upper_bound = omega arith }

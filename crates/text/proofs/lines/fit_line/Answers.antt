@@ -3,9 +3,6 @@ use native.Mathlib.Omega.{arith}
 use Rattle.text.specs.Lines.{fit_line}
 use Rattle.text.proofs.lines.fit_line.Goals as goal
 
-pub shape_of-out : goal.shape_of-out
-shape_of-out c = c.out-1.given
-
 pub returns : goal.returns
 unfolding fit_line
 returns c = record { wrote = c.floats_line.ensures.wrote; upper_bound = omega arith }

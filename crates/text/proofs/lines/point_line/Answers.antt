@@ -7,9 +7,6 @@ use Rattle.text.specs.Lines.{point_line, floats_line, ascii}
 use Rattle.text.proofs.Writing.{wrote_as}
 use Rattle.text.proofs.lines.point_line.Goals as goal
 
-pub shape_of-out : goal.shape_of-out
-shape_of-out c = c.out-1.given
-
 pub returns : goal.returns
 unfolding point_line
 returns c = let i = c.args.i in

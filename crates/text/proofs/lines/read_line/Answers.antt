@@ -5,9 +5,6 @@ use Rattle.text.proofs.Writing.{then}
 use Rattle.text.specs.Lines.{read_line}
 use Rattle.text.proofs.lines.read_line.Goals as goal
 
-pub shape_of-out : goal.shape_of-out
-shape_of-out c = c.out-3-1.given ∙ c.out-2-1.given ∙ c.out-1.given
-
 pub returns : goal.returns
 unfolding read_line
 returns c = record { wrote = then c.put_text-a.ensures (then c.counts-b.ensures.wrote c.counts_line.ensures.wrote); upper_bound = omega arith }

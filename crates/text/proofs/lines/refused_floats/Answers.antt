@@ -5,9 +5,6 @@ use Rattle.text.proofs.Writing.{then}
 use Rattle.text.specs.Lines.{refused_floats}
 use Rattle.text.proofs.lines.refused_floats.Goals as goal
 
-pub shape_of-out : goal.shape_of-out
-shape_of-out c = c.out-3-1.given ∙ c.out-2-1.given ∙ c.out-1.given
-
 pub returns : goal.returns
 unfolding refused_floats
 returns c = record { wrote = then c.put_text-p.ensures (then c.counts-q.ensures.wrote c.floats_line.ensures.wrote); upper_bound = omega arith }

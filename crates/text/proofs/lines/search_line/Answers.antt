@@ -3,9 +3,6 @@ use native.Mathlib.Omega.{arith}
 use Rattle.text.specs.Lines.{search_line}
 use Rattle.text.proofs.lines.search_line.Goals as goal
 
-pub shape_of-out : goal.shape_of-out
-shape_of-out c = c.out-1.given
-
 pub returns : goal.returns
 unfolding search_line
 returns c = record { wrote = c.counts_line.ensures.wrote; upper_bound = omega arith }

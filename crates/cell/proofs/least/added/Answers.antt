@@ -1,0 +1,8 @@
+-- `cell::least::added` meets its contract. Assumes nothing.
+use borrow.Author.Rules.{rules}
+use Rattle.cell.specs.Least.{with_observation}
+use Rattle.cell.proofs.least.added.Goals as goal
+
+pub returns : goal.returns
+unfolding with_observation
+returns c = λ i. record { a = c.line_plus-a.ensures i; d = c.line_plus-d.ensures i; (goal.at.returns c).After-line_plus-c = c.line_plus-c.ensures i }

@@ -1,0 +1,19 @@
+use mathlib.Core.Path.{◌≡◌, refl}
+use Prim.Native.Nat.{◌+◌, ◌-◌, ◌*◌}
+use native.Mathlib.Omega.{arith}
+use lib.ListN.{set}
+use Rattle.laws.specs.Loop.{for}
+use Rattle.laws.specs.Floats.{at}
+use Rattle.laws.proofs.Loops.{again, ended}
+use Rattle.cell.specs.Cell.{slot_of}
+use Rattle.cell.proofs.trial.slot.Goals as goal
+
+pub loop-j-init : goal.loop-j-init
+unfolding slot_of
+loop-j-init c = refl
+
+pub loop-j-preserved : goal.loop-j-preserved
+loop-j-preserved c = again _ _ _ c.loop-j-test.true refl c.loop-j.invariant
+
+pub returns : goal.returns
+returns c = ended _ _ _ c.loop-j-test.false c.loop-j.invariant
