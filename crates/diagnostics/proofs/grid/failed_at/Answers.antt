@@ -1,7 +1,6 @@
 -- `diagnostics::grid::failed_at` meets its contract. Assumes nothing.
 use Rattle.diagnostics.specs.Walk.{failed_of}
 use Prim.Native.Nat.{◌+◌}
-use borrow.Author.Rules.{rules}
 use Rattle.diagnostics.proofs.grid.failed_at.Goals as goal
 
 pub returns : goal.returns

@@ -1,5 +1,4 @@
 -- `diagnostics::grid::fresh` meets its contract. Assumes nothing.
-use borrow.Author.Rules.{rules}
 use Rattle.diagnostics.specs.Walk.{fresh_of}
 use Rattle.diagnostics.proofs.grid.fresh.Goals as goal
 

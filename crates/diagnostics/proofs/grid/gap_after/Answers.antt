@@ -2,7 +2,6 @@
 use Rattle.diagnostics.specs.Walk.{gap_of}
 use Rattle.laws.proofs.Choices.{if_true, if_false}
 use mathlib.Core.Path.{refl}
-use borrow.Author.Rules.{rules}
 use Rattle.diagnostics.proofs.grid.gap_after.Goals as goal
 
 pub returns-then-p : goal.returns-then-p

@@ -1,6 +1,5 @@
 -- `diagnostics::grid::good` meets its contract. Assumes nothing.
 use Rattle.diagnostics.specs.Walk.{good_of}
-use borrow.Author.Rules.{rules}
 use Rattle.diagnostics.proofs.Standing.{good_by}
 use Rattle.diagnostics.proofs.grid.good.Goals as goal
 

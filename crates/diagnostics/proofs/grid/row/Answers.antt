@@ -1,7 +1,6 @@
-use Rattle.diagnostics.specs.Walk.{seen_on}
 use mathlib.Core.Path.{refl, ◌∙◌}
-use Prim.Native.Nat.{◌-◌, zero-le}
-use Rattle.diagnostics.proofs.Standing.{RowInv, row_starts, none_more, point_room, point_fits, point_few, point_on, row_few, row_is}
+use Prim.Native.Nat.{zero-le}
+use Rattle.diagnostics.proofs.Standing.{row_starts, none_more, point_room, point_fits, point_few, point_on, row_few, row_is}
 use native.Mathlib.Numerals.{add-one-le, add-one-dec}
 use borrow.Author.Rules.{rules}
 use Rattle.diagnostics.proofs.grid.row.Goals as goal
@@ -24,7 +23,7 @@ loop-j-preserved c = let i = c.loop-j.invariant in
       end = i.end;
       fits = i.fits;
       room_for = i.room_for;
-      same = c.visit-s.auto.0 ∙ i.same;
+      same = c.visit-s.auto.room ∙ i.same;
       few = point_few i c.visit-s.ensures.failed_bound;
       within = add-one-le c.loop-j-test.true;
       left = point_on i _ _ c.loop-j-test.true c.visit-s.ensures.room_after c.seen_at-seen.ensures;

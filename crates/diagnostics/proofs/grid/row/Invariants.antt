@@ -1,10 +1,7 @@
 -- `diagnostics::grid::row` meets its contract. Assumes nothing.
 use Rattle.diagnostics.specs.Walk.{seen_on}
-use mathlib.Core.Path.{refl, ◌∙◌}
-use Prim.Native.Nat.{◌-◌, zero-le}
-use Rattle.diagnostics.proofs.Standing.{RowInv, row_starts, none_more, point_room, point_fits, point_few, point_on, row_few, row_is}
-use native.Mathlib.Numerals.{add-one-le, add-one-dec}
-use borrow.Author.Rules.{rules}
+use Prim.Native.Nat.{◌-◌}
+use Rattle.diagnostics.proofs.Standing.{RowInv}
 use Rattle.diagnostics.proofs.grid.row.Given as goal
 
 abbrev pub invariant-loop-j : goal.invariant-loop-j

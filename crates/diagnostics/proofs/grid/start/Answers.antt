@@ -1,6 +1,5 @@
 -- `diagnostics::grid::start` meets its contract. Assumes nothing.
 use Rattle.diagnostics.specs.Walk.{walk_start}
-use borrow.Author.Rules.{rules}
 use Rattle.diagnostics.proofs.grid.start.Goals as goal
 
 pub returns : goal.returns

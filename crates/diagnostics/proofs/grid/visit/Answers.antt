@@ -5,7 +5,6 @@ use lib.ListN.{length-set}
 use Rattle.diagnostics.proofs.Standing.{same_walk}
 use Rattle.diagnostics.specs.declared.grid.Walk.{Walk}
 use native.Mathlib.Omega.{arith}
-use borrow.Author.Rules.{rules}
 use Rattle.diagnostics.proofs.grid.visit.Goals as goal
 
 pub bounds-room-at-in-Failed : goal.bounds-room-at-in-Failed
@@ -16,8 +15,8 @@ bounds-room-at-in-Failed-2 c = simp length-set (omega arith)
 
 pub returns-in-Good : goal.returns-in-Good
 unfolding good_of visit_of
-returns-in-Good c = let e : c.good2.result.failed ≡ c.args.s.failed = ap (λ (w : Walk). w.failed) c.good2.ensures in
-    record { room_after = rw c.in-Good.is (ap (λ (w : Walk). walk_in w c.args.room.now) c.good2.ensures); failed_bound = omega arith }
+returns-in-Good c = let e : c.good.result.failed ≡ c.args.s.failed = ap (λ (w : Walk). w.failed) c.good.ensures in
+    record { room_after = rw c.in-Good.is (ap (λ (w : Walk). walk_in w c.args.room.now) c.good.ensures); failed_bound = omega arith }
 
 pub returns-in-Failed : goal.returns-in-Failed
 unfolding failed_of failure_at visit_of

@@ -1,7 +1,5 @@
-use Rattle.diagnostics.specs.Walk.{seen_on}
 use mathlib.Core.Path.{refl, ◌∙◌}
-use Prim.Native.Nat.{◌-◌}
-use Rattle.diagnostics.proofs.Standing.{WalkInv, walk_starts, row_room, row_fits, rows_few, row_on, walk_is}
+use Rattle.diagnostics.proofs.Standing.{walk_starts, row_room, row_fits, rows_few, row_on, walk_is}
 use native.Mathlib.Numerals.{add-one-dec}
 use borrow.Author.Rules.{rules}
 use Rattle.diagnostics.proofs.grid.walk_grid.Goals as goal
@@ -24,7 +22,7 @@ loop-i-preserved c = let v = c.loop-i.invariant in
       end = v.end;
       fits = v.fits;
       room_for = v.room_for;
-      same = c.row-s.auto.1.1.1.1.1.1.1.1.1.0 ∙ v.same;
+      same = c.row-s.auto.room ∙ v.same;
       few = rows_few v c.row-s.ensures.failed_bound;
       left = row_on v _ _ c.loop-i-test.true c.row-s.ensures.room_after;
     }

@@ -1,10 +1,7 @@
 -- `diagnostics::grid::walk_grid` meets its contract. Assumes nothing.
 use Rattle.diagnostics.specs.Walk.{seen_on}
-use mathlib.Core.Path.{refl, ◌∙◌}
 use Prim.Native.Nat.{◌-◌}
-use Rattle.diagnostics.proofs.Standing.{WalkInv, walk_starts, row_room, row_fits, rows_few, row_on, walk_is}
-use native.Mathlib.Numerals.{add-one-dec}
-use borrow.Author.Rules.{rules}
+use Rattle.diagnostics.proofs.Standing.{WalkInv}
 use Rattle.diagnostics.proofs.grid.walk_grid.Given as goal
 
 abbrev pub invariant-loop-i : goal.invariant-loop-i

@@ -2,7 +2,6 @@
 use Rattle.diagnostics.specs.Walk.{seen_on, seen_of}
 use Rattle.point.specs.declared.Total.{Total}
 use mathlib.Core.Path.{ap, ◌∙◌}
-use borrow.Author.Rules.{rules}
 use Rattle.diagnostics.proofs.points.seen_at.Goals as goal
 
 pub returns : goal.returns

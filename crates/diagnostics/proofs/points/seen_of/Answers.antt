@@ -1,7 +1,6 @@
 -- `diagnostics::points::seen_of` meets its contract. Assumes nothing.
 use Rattle.laws.proofs.Choices.{if_true, if_false}
 use mathlib.Core.Path.{refl}
-use borrow.Author.Rules.{rules}
 use Rattle.diagnostics.proofs.points.seen_of.Goals as goal
 
 pub returns-in-Refused : goal.returns-in-Refused

@@ -3,7 +3,6 @@ use Rattle.diagnostics.specs.Diagnostics.{diagnose_number}
 use Rattle.laws.proofs.Choices.{if_true, if_false, number_goes, number_no}
 use mathlib.Core.Path.{refl, sym, ◌∙◌}
 use Prim.Native.Nat.{ℕ}
-use borrow.Author.Rules.{rules}
 use Rattle.diagnostics.proofs.report.diagnose_number.Goals as goal
 
 pub returns-then-short : goal.returns-then-short

@@ -5,7 +5,6 @@ use Prim.Native.Nat.{ℕ}
 use lib.ListN.{length}
 use Rattle.diagnostics.specs.declared.report.Diagnosed.TheVariants.{Refused}
 use Rattle.diagnostics.proofs.Standing.{room_enough, report_is, halves}
-use borrow.Author.Rules.{rules}
 use Rattle.diagnostics.proofs.report.diagnose_run.Goals as goal
 
 pub walk_grid-s-requires : goal.walk_grid-s-requires
@@ -15,7 +14,7 @@ walk_grid-s-requires c = let a = c.args in
     room_enough a.run a.ks.now a.axis.now a.tol (length a.room.now) e z
 
 pub shape_of-room-then-bad-eq0 : goal.shape_of-room-then-bad-eq0
-shape_of-room-then-bad-eq0 c = c.walk_grid-s.auto.1.1.1.1.1.1.1.1.0
+shape_of-room-then-bad-eq0 c = c.walk_grid-s.auto.room
 
 pub returns-then-bad-eq0 : goal.returns-then-bad-eq0
 unfolding diagnose_of

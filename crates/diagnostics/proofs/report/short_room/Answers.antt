@@ -1,6 +1,5 @@
 -- `diagnostics::report::short_room` meets its contract. Assumes nothing.
 use Rattle.diagnostics.proofs.Standing.{no_tau, by_division}
-use borrow.Author.Rules.{rules}
 use Rattle.diagnostics.proofs.report.short_room.Goals as goal
 
 pub returns-then-nt-eq0 : goal.returns-then-nt-eq0

@@ -4,7 +4,6 @@ use mathlib.Core.Path.{ap₂, ◌∙◌}
 use mathlib.Core.Bool.{Bool, ◌&&◌, cond}
 use lib.Ieee.{le}
 use Rattle.laws.specs.Floats.{+0}
-use borrow.Author.Rules.{rules}
 use Rattle.diagnostics.proofs.report.tolerance_number.Goals as goal
 
 pub returns : goal.returns

@@ -3,7 +3,6 @@ use Rattle.diagnostics.specs.Tally.{one_more}
 use Rattle.laws.proofs.Choices.{if_true, if_false}
 use mathlib.Core.Path.{refl}
 use borrow.Author.Tests.{lt-ltb, le-ltb}
-use borrow.Author.Rules.{rules}
 use Rattle.diagnostics.proofs.tally.bumped.Goals as goal
 
 pub returns-then-n-lt18446744073709551615 : goal.returns-then-n-lt18446744073709551615

@@ -1,5 +1,4 @@
 -- `diagnostics::report::SurfaceDiagnostics::is_clean` meets its contract. Assumes nothing.
-use borrow.Author.Rules.{rules}
 use Rattle.diagnostics.specs.Diagnostics.{report_clean}
 use mathlib.Core.Bool.{◌&&◌}
 use lib.Dec.{eqb}

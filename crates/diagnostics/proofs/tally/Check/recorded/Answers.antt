@@ -1,6 +1,5 @@
 -- `diagnostics::tally::Check::recorded` meets its contract. Assumes nothing.
 use Rattle.diagnostics.specs.Tally.{recorded_of}
-use borrow.Author.Rules.{rules}
 use Rattle.diagnostics.proofs.tally.Check.recorded.Goals as goal
 
 pub returns : goal.returns
