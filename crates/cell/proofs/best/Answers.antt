@@ -22,6 +22,7 @@ use Rattle.cell.proofs.Laws.{passed_over, one_more, one_back, best_none, zero_or
 use Rattle.cell.proofs.Work.{work_next, work_still, one_system, some_faces}
 use Rattle.faces.proofs.Orders.{fit_order, stepped, good_at}
 use Rattle.cell.proofs.best.Goals as goal
+use Rattle.cell.proofs.best.Goals.{then-e, else-e}
 
 pub returns-then-not-positive : goal.returns-then-not-positive
 returns-then-not-positive c = let a = c.args in
@@ -34,11 +35,11 @@ returns-then-not-positive c = let a = c.args in
     λ t l m. ap (λ (t : Tried). t.some) (try_none a.b.now a.g.now a.h.now a.pivot a.scale a.slack (face_at 3 7 t) (fit_order.good t m).size (scale t l m) o no)
     in
     let rest = work_still p 1 63 (λ t l m. work_none a.b.now a.g.now a.h.now a.pivot a.scale a.slack (face_at 3 7 t) (fit_order.good t m).size (scale t l m) no) in
-    (c.no_try-best.ensures ∙ best_none o p 64 (zero_or_more (λ (t : ℕ). t < 64 → (try_of o p (face_at 3 7 t)).some ≡ false) (λ m. c.requires.face_at_value.0) none), c.requires.face_at_value.1 ∙ sym rest)
+    (c.no_try-best.ensures ∙ best_none o p 64 (zero_or_more (λ (t : ℕ). t < 64 → (try_of o p (face_at 3 7 t)).some ≡ false) (λ m. c.requires.face_at_value) none), c.requires.first_value ∙ sym rest)
 
 pub loop-t-init : goal.loop-t-init
 unfolding best_of
-loop-t-init c = (one_more 0, omega arith, sym fit_order.first, again _ 0 64 (omega arith) (c.no_try-best.ensures ∙ passed_over _ _ c.requires.face_at_value.0) refl, add-zero _ ∙ c.requires.face_at_value.1)
+loop-t-init c = (one_more 0, omega arith, sym fit_order.first, again _ 0 64 (omega arith) (c.no_try-best.ensures ∙ passed_over _ _ c.requires.face_at_value) refl, add-zero _ ∙ c.requires.first_value)
 
 pub candidate-e-requires : goal.candidate-e-requires
 candidate-e-requires c = let l = c.loop-t in
@@ -72,13 +73,13 @@ loop-t-preserved c = let l = c.loop-t in
     let on = one_more l.t in
     let under = add-one-le c.loop-t-test.true in
     let next = again _ _ _ c.loop-t-test.true in
-    ⊎_elim
-    (λ w.
+    elim c.if-e.branch [
+      then-e w ↦
     let x = c.candidate-e.result.x in
-    let valued = w.6 ∙ w.5.ensures ∙ ap (λ (v : Float). pick_of (valued_of c.next-f.result x v) l.best) w.3.ensures in
-    (on, under, f, next (valued ∙ ap (λ (t : Tried). pick_of t l.best) (if_true _ w.0.taken refl ∙ tried)) l.invariant.3, work))
-    (λ w. (on, under, f, next (w.1 ∙ passed_over no_try l.best refl ∙ ap (λ (t : Tried). pick_of t l.best) (if_false _ w.0.left refl ∙ tried)) l.invariant.3, work))
-    c.if-e.branch
+    let valued = w.best-is ∙ w.judged-best.ensures ∙ ap (λ (v : Float). pick_of (valued_of c.next-f.result x v) l.best) w.objective-v.ensures in
+    (on, under, f, next (valued ∙ ap (λ (t : Tried). pick_of t l.best) (if_true _ w.if-e.true refl ∙ tried)) l.invariant.3, work)
+    | else-e w ↦ (on, under, f, next (w.best-is ∙ passed_over no_try l.best refl ∙ ap (λ (t : Tried). pick_of t l.best) (if_false _ w.if-e.false refl ∙ tried)) l.invariant.3, work)
+    ]
 
 pub overflow_add-result : goal.overflow_add-result
 overflow_add-result c = let l = c.loop-t in

@@ -17,4 +17,4 @@ unfolding ys_on hs_on
 returns c = let a = c.args in
     let y = c.fill_ys.ensures in
     let h = lengths_in_range _ _ _ _ c.requires.0 c.with_one.ensures ∙ ap (λ (t : List Float). filled_on (length a.ks.now) (λ i. h_of (at t i)) a.hs.now) y in
-    let rest = (y, h) in record { value = c.posed.ensures ∙ ap₂ (λ (y h : List Float). posed_of fit_model (at y) (at h) a.ws.now a.weights.now a.l a.sigma) y h; ys_after = rest.0; hs_after = rest.1 }
+    record { value = c.posed.ensures ∙ ap₂ (λ (y h : List Float). posed_of fit_model (at y) (at h) a.ws.now a.weights.now a.l a.sigma) y h; ys_after = y; hs_after = h }

@@ -13,10 +13,10 @@ cell_at-requires c = let h = both _ _ c.if-ks-ws.true in
 
 pub returns-then-ks-ws : goal.returns-then-ks-ws
 returns-then-ks-ws c = let a = c.args in
-    let e = c.Cell-at.ensures in
+    let e = c.cell_at.ensures in
     let t = c.if-ks-ws.true in
-    let rest = (if_true {x = ys_on a.ks.now a.m a.sigma a.ys.now} a.ys.now t e.1.0, if_true {x = hs_on a.ks.now a.m a.sigma a.ys.now a.hs.now} a.hs.now t e.1.1) in record { value = posed_on a.ks.now a.ws.now a.weights.now a.l a.m a.sigma a.ys.now a.hs.now t e.0; ys_after = rest.0; hs_after = rest.1 }
+    record { value = posed_on a.ks.now a.ws.now a.weights.now a.l a.m a.sigma a.ys.now a.hs.now t e.value; ys_after = if_true {x = ys_on a.ks.now a.m a.sigma a.ys.now} a.ys.now t e.ys_after; hs_after = if_true {x = hs_on a.ks.now a.m a.sigma a.ys.now a.hs.now} a.hs.now t e.hs_after }
 
 pub returns : goal.returns
 unfolding inner_on
-returns c = let rest = (if_false _ c.if-ks-ws.false refl, if_false _ c.if-ks-ws.false refl) in record { value = if_false _ c.if-ks-ws.false refl; ys_after = rest.0; hs_after = rest.1 }
+returns c = record { value = if_false _ c.if-ks-ws.false refl; ys_after = if_false _ c.if-ks-ws.false refl; hs_after = if_false _ c.if-ks-ws.false refl }

@@ -55,8 +55,8 @@ is_positive-wide-requires c = tt
 
 pub returns-then-not-wide : goal.returns-then-not-wide
 unfolding checks_number
-returns-then-not-wide c = goes _ c.lengths_hold-lengths.ensures c.if-not-lengths.false-raw (goes _ c.sizes_hold-sizes.ensures c.if-not-sizes.false-raw (goes _ c.all_pass-observations.ensures c.if-not-observations.false-raw (goes _ c.validate-settings.ensures c.if-not-settings.false-raw (goes _ c.is_positive-expiry.ensures c.if-not-expiry.false-raw (if_true _ (le-leb _ _ c.if-k-config.false) (stops _ (c.is_positive-wide.ensures ∙ ap positive c.Span-of.ensures) c.if-not-wide.true-raw refl))))))
+returns-then-not-wide c = goes _ c.lengths_hold-lengths.ensures c.if-not-lengths.false-raw (goes _ c.sizes_hold-sizes.ensures c.if-not-sizes.false-raw (goes _ c.all_pass-observations.ensures c.if-not-observations.false-raw (goes _ c.validate-settings.ensures c.if-not-settings.false-raw (goes _ c.is_positive-expiry.ensures c.if-not-expiry.false-raw (if_true _ (le-leb _ _ c.if-k-config.false) (stops _ (c.is_positive-wide.ensures ∙ ap positive c.span_of.ensures) c.if-not-wide.true-raw refl))))))
 
 pub returns : goal.returns
 unfolding checks_number
-returns c = goes _ c.lengths_hold-lengths.ensures c.if-not-lengths.false-raw (goes _ c.sizes_hold-sizes.ensures c.if-not-sizes.false-raw (goes _ c.all_pass-observations.ensures c.if-not-observations.false-raw (goes _ c.validate-settings.ensures c.if-not-settings.false-raw (goes _ c.is_positive-expiry.ensures c.if-not-expiry.false-raw (if_true _ (le-leb _ _ c.if-k-config.false) (goes _ (c.is_positive-wide.ensures ∙ ap positive c.Span-of.ensures) c.if-not-wide.false-raw refl))))))
+returns c = goes _ c.lengths_hold-lengths.ensures c.if-not-lengths.false-raw (goes _ c.sizes_hold-sizes.ensures c.if-not-sizes.false-raw (goes _ c.all_pass-observations.ensures c.if-not-observations.false-raw (goes _ c.validate-settings.ensures c.if-not-settings.false-raw (goes _ c.is_positive-expiry.ensures c.if-not-expiry.false-raw (if_true _ (le-leb _ _ c.if-k-config.false) (goes _ (c.is_positive-wide.ensures ∙ ap positive c.span_of.ensures) c.if-not-wide.false-raw refl))))))

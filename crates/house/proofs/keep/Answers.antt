@@ -10,6 +10,7 @@ use Rattle.house.specs.File.{quotes}
 use Rattle.house.specs.Repeats.{kept}
 use Rattle.house.specs.Check.{k_of, w_of, weight_of}
 use Rattle.house.proofs.keep.Goals as goal
+use Rattle.house.proofs.keep.Goals.{then-not-repeated, else-not-repeated}
 
 pub loop-i-init : goal.loop-i-init
 loop-i-init c = let a = c.args in
@@ -24,25 +25,24 @@ loop-i-preserved c = let a = c.args in
     let hk : old.m < length old.k = omega arith in
     let hw : old.m < length old.w = omega arith in
     let hz : old.m < length old.weight = omega arith in
-    ⊎_elim
-    (λ w.
-    let e = rest_keep a.s.now a.n old.i c.repeated.result more is w.0.taken in
-    let q = w.1.ensures in (
+    elim c.if-not-repeated.branch [
+      then-not-repeated w ↦
+    let e = rest_keep a.s.now a.n old.i c.repeated.result more is w.if-not-repeated.true-raw in
+    let q = w.quote_at-q.ensures in (
       search rules,
-      omega (arith, w.8),
-      column_keep k_of _ _ _ _ _ old.m _ _ old.k _ hk e (w.2.ensures ∙ ap k_of q) w.5 w.8 old.invariant.2,
-      column_keep w_of _ _ _ _ _ old.m _ _ old.w _ hw e (w.3.ensures ∙ ap w_of q) w.6 w.8 old.invariant.3,
-      column_keep weight_of _ _ _ _ _ old.m _ _ old.weight _ hz e (w.4.ensures ∙ ap weight_of q) w.7 w.8 old.invariant.4,
-    ))
-    (λ w.
-    let e = rest_drop a.s.now a.n old.i c.repeated.result more is w.0.left in (
+      omega (arith, w.m-is),
+      column_keep k_of _ _ _ _ _ old.m _ _ old.k _ hk e (w.f64_of.ensures ∙ ap k_of q) w.k-is w.m-is old.invariant.2,
+      column_keep w_of _ _ _ _ _ old.m _ _ old.w _ hw e (w.f64_of-then-not-repeated.ensures ∙ ap w_of q) w.w-is w.m-is old.invariant.3,
+      column_keep weight_of _ _ _ _ _ old.m _ _ old.weight _ hz e (w.f64_of-then-not-repeated-2.ensures ∙ ap weight_of q) w.weight-is w.m-is old.invariant.4,
+    )
+    | else-not-repeated w ↦
+    let e = rest_drop a.s.now a.n old.i c.repeated.result more is w.if-not-repeated.false-raw in (
       search rules,
-      omega (arith, w.4),
-      column_skip k_of _ _ _ old.m _ _ old.k _ e w.1 w.4 old.invariant.2,
-      column_skip w_of _ _ _ old.m _ _ old.w _ e w.2 w.4 old.invariant.3,
-      column_skip weight_of _ _ _ old.m _ _ old.weight _ e w.3 w.4 old.invariant.4,
-    ))
-    c.if-not-repeated.branch
+      omega (arith, w.m-is),
+      column_skip k_of _ _ _ old.m _ _ old.k _ e w.k-is w.m-is old.invariant.2,
+      column_skip w_of _ _ _ old.m _ _ old.w _ e w.w-is w.m-is old.invariant.3,
+      column_skip weight_of _ _ _ old.m _ _ old.weight _ e w.weight-is w.m-is old.invariant.4,
+    ) ]
 
 pub returns : goal.returns
 returns c = let a = c.args in
@@ -51,4 +51,4 @@ returns c = let a = c.args in
     let hw : c.loop-i.m ≤ length c.loop-i.w = omega arith in
     let hz : c.loop-i.m ≤ length c.loop-i.weight = omega arith in
     let k = column_end k_of _ _ _ _ _ hk e c.loop-i.invariant.2 in
-    let rest = (k.1, ((column_end w_of _ _ _ _ _ hw e c.loop-i.invariant.3).1, (column_end weight_of _ _ _ _ _ hz e c.loop-i.invariant.4).1)) in record { value = k.0; k_after = rest.0; w_after = rest.1; weight_after = rest.2 }
+    record { value = k.0; k_after = k.1; w_after = (column_end w_of _ _ _ _ _ hw e c.loop-i.invariant.3).1; weight_after = (column_end weight_of _ _ _ _ _ hz e c.loop-i.invariant.4).1 }

@@ -11,7 +11,7 @@ use Rattle.house.proofs.take.Goals as goal
 
 pub returns-then-not-enough : goal.returns-then-not-enough
 returns-then-not-enough c = let none = stops _ c.columns_hold-enough.ensures c.if-not-enough.true-raw refl ∙ taken_is c.args.s.now (length c.args.k.now) (length c.args.w.now) (length c.args.weight.now) in
-    let rest = (column_none k_of _ _ none, (column_none w_of _ _ none, column_none weight_of _ _ none)) in record { value = ap length none; k_after = rest.0; w_after = rest.1; weight_after = rest.2 }
+    record { value = ap length none; k_after = column_none k_of _ _ none; w_after = column_none w_of _ _ none; weight_after = column_none weight_of _ _ none }
 
 pub keep-requires : goal.keep-requires
 keep-requires c = let r = columns_room _ _ _ _ _ c.columns_hold-enough.ensures c.if-not-enough.false-raw in
@@ -20,4 +20,4 @@ keep-requires c = let r = columns_room _ _ _ _ _ c.columns_hold-enough.ensures c
 pub returns : goal.returns
 returns c = let e = c.keep.ensures in
     let all = goes [] c.columns_hold-enough.ensures c.if-not-enough.false-raw refl ∙ taken_is c.args.s.now (length c.args.k.now) (length c.args.w.now) (length c.args.weight.now) in
-    let rest = (column_took k_of _ _ _ _ all e.1.0, (column_took w_of _ _ _ _ all e.1.1.0, column_took weight_of _ _ _ _ all e.1.1.1)) in record { value = e.0 ∙ ap length all; k_after = rest.0; w_after = rest.1; weight_after = rest.2 }
+    record { value = e.value ∙ ap length all; k_after = column_took k_of _ _ _ _ all e.k_after; w_after = column_took w_of _ _ _ _ all e.w_after; weight_after = column_took weight_of _ _ _ _ all e.weight_after }

@@ -11,4 +11,4 @@ is_finite-requires c = tt
 pub returns : goal.returns
 unfolding params_hold
 returns c = let a = c.args in
-    ap (λ (b : Bool). a.t.ok && b && le a.t.params (a.objective +f (f64 0x3e11_2e0b_e826_d695 *f a.objective +f a.config.feasibility_tolerance *f a.t.weight *f a.a-max *f a.a-max))) c.is_finite.ensures
+    ap (λ (b : Bool). a.t.ok && b && le a.t.params (a.objective +f (f64 0x3e11_2e0b_e826_d695 *f a.objective +f a.config.feasibility_tolerance *f a.t.weight *f a.a_max *f a.a_max))) c.is_finite.ensures

@@ -5,4 +5,4 @@ use Rattle.cell.proofs.least.added.Goals as goal
 
 pub returns : goal.returns
 unfolding with_observation
-returns c = λ i. record { a = c.line_plus-a.ensures i; d = c.line_plus-d.ensures i; (goal.at.returns c).After-line_plus-c = c.line_plus-c.ensures i }
+returns c = λ i. record { a = c.line_plus-a.ensures i; d = c.line_plus-d.ensures i; c = c.line_plus-c.ensures i }
