@@ -4,7 +4,7 @@ use mathlib.Core.Path.{◌≡◌, refl, sym, ap, ap₂, ◌∙◌}
 use mathlib.Core.Bool.{Bool, true, false, cond}
 use mathlib.Core.List.{List, [], ◌∷◌, ◌++◌, append_assoc, append-nil}
 use native.Mathlib.Omega.{arith}
-use native.Mathlib.Nat.{mod-lt, zero-add, add-zero, sub-zero}
+use native.Mathlib.Nat.{zero-add, add-zero, sub-zero}
 use native.Mathlib.Numerals.{add-one, sub-one}
 use lib.ListN.{length, take, drop, set, get_or, length-append, length-set}
 use lib.Seq.{set_out, set-append_seam, take-suc, take_all}
@@ -87,9 +87,6 @@ text_done t j h w = rw (take_all j t h) at w
 -- where the text is another's
 pub wrote_as : {l l' : List ℕ} {at at' : ℕ} {t u : List ℕ} → u ≡ t → Wrote l l' at at' t → Wrote l l' at at' u
 wrote_as e w = rw e w
-
-pub below_16 : (n : ℕ) {b : ℕ} → 0 < b → b ≤ 16 → n % b < 16
-below_16 n {b} h k = omega (arith, mod-lt n h)
 
 -- ---- a space and the text of each value
 

@@ -1,6 +1,5 @@
 -- `text::answers::refused` meets its contract. Assumes nothing.
 use native.Mathlib.Omega.{arith}
-use borrow.Author.Rules.{rules}
 use Rattle.text.specs.Answers.{refused_text}
 use Rattle.text.proofs.Writing.{then}
 use Rattle.text.proofs.answers.refused.Goals as goal

@@ -1,9 +1,6 @@
 use native.Mathlib.Omega.{arith}
-use Prim.Native.Nat.{◌+◌, ◌*◌, ◌-◌, ◌≤◌}
-use mathlib.Core.Path.{◌≡◌, refl}
-use lib.ListN.{length, take}
-use Rattle.text.specs.Place.{Wrote}
-use Rattle.text.specs.Digits.{decimal_of, counts_of, each}
+use mathlib.Core.Path.{refl}
+use Rattle.text.specs.Digits.{decimal_of, each}
 use Rattle.text.proofs.Writing.{wrote_none, wrote_long, each_more, each_done}
 use Rattle.text.proofs.digits.counts.Goals as goal
 

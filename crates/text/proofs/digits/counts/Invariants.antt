@@ -1,11 +1,9 @@
 -- `text::digits::counts` meets its contract. Assumes nothing.
-use native.Mathlib.Omega.{arith}
 use Prim.Native.Nat.{◌+◌, ◌*◌, ◌-◌, ◌≤◌}
-use mathlib.Core.Path.{◌≡◌, refl}
+use mathlib.Core.Path.{◌≡◌}
 use lib.ListN.{length, take}
 use Rattle.text.specs.Place.{Wrote}
-use Rattle.text.specs.Digits.{decimal_of, counts_of, each}
-use Rattle.text.proofs.Writing.{wrote_none, wrote_long, each_more, each_done}
+use Rattle.text.specs.Digits.{counts_of}
 use Rattle.text.proofs.digits.counts.Given as goal
 
 abbrev pub invariant-loop-j : goal.invariant-loop-j

@@ -1,13 +1,9 @@
 -- `text::digits::floats` meets its contract. Assumes nothing.
-use native.Mathlib.Omega.{arith}
-use Prim.Native.Nat.{ℕ, ◌+◌, ◌*◌, ◌-◌, ◌≤◌}
-use mathlib.Core.Path.{◌≡◌, refl, ap}
-use mathlib.Core.List.{List}
-use lib.Ieee.{Float, to_bits, binary64}
+use Prim.Native.Nat.{◌+◌, ◌*◌, ◌-◌, ◌≤◌}
+use mathlib.Core.Path.{◌≡◌}
 use lib.ListN.{length, take}
 use Rattle.text.specs.Place.{Wrote}
-use Rattle.text.specs.Digits.{hex_of, floats_of, each}
-use Rattle.text.proofs.Writing.{wrote_none, wrote_long, each_more, each_done}
+use Rattle.text.specs.Digits.{floats_of}
 use Rattle.text.proofs.digits.floats.Given as goal
 
 abbrev pub invariant-loop-j : goal.invariant-loop-j

@@ -1,7 +1,6 @@
 -- `text::digits::glyph` meets its contract. Assumes nothing.
 use mathlib.Core.Path.{sym}
 use borrow.Author.Tests.{lt-ltb, le-ltb}
-use native.Mathlib.Omega.{arith}
 use Rattle.text.proofs.digits.glyph.Goals as goal
 
 pub returns-then-d-lt10 : goal.returns-then-d-lt10

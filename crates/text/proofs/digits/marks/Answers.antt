@@ -1,13 +1,10 @@
 use native.Mathlib.Omega.{arith}
-use Prim.Native.Nat.{ℕ, ◌+◌, ◌-◌, ◌≤◌}
-use mathlib.Core.Path.{◌≡◌, refl, ap}
-use mathlib.Core.Bool.{Bool, false, cond}
-use mathlib.Core.List.{List, [], ◌∷◌}
-use lib.ListN.{length, get_or}
+use Prim.Native.Nat.{ℕ}
+use mathlib.Core.Path.{refl, ap}
+use mathlib.Core.List.{[], ◌∷◌}
 use Rattle.laws.specs.Loop.{turns}
 use Rattle.text.specs.Digits.{marks_of}
-use Rattle.text.specs.Place.{Wrote}
-use Rattle.text.proofs.Writing.{wrote_none, wrote_long, pieces, piece_more, piece_done}
+use Rattle.text.proofs.Writing.{wrote_none, wrote_long, piece_more, piece_done}
 use Rattle.text.proofs.digits.marks.Invariants.{one_mark}
 use Rattle.text.proofs.digits.marks.Goals as goal
 

@@ -1,14 +1,11 @@
 -- `text::digits::marks` meets its contract. Assumes nothing.
-use native.Mathlib.Omega.{arith}
 use Prim.Native.Nat.{ℕ, ◌+◌, ◌-◌, ◌≤◌}
-use mathlib.Core.Path.{◌≡◌, refl, ap}
+use mathlib.Core.Path.{◌≡◌}
 use mathlib.Core.Bool.{Bool, false, cond}
 use mathlib.Core.List.{List, [], ◌∷◌}
 use lib.ListN.{length, get_or}
-use Rattle.laws.specs.Loop.{turns}
-use Rattle.text.specs.Digits.{marks_of}
 use Rattle.text.specs.Place.{Wrote}
-use Rattle.text.proofs.Writing.{wrote_none, wrote_long, pieces, piece_more, piece_done}
+use Rattle.text.proofs.Writing.{pieces}
 use Rattle.text.proofs.digits.marks.Given as goal
 
 abbrev pub one_mark : List Bool → ℕ → List ℕ

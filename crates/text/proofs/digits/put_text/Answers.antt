@@ -1,8 +1,5 @@
 use native.Mathlib.Omega.{arith}
-use Prim.Native.Nat.{◌+◌, ◌-◌, ◌≤◌}
-use mathlib.Core.Path.{◌≡◌, refl}
-use lib.ListN.{length, take}
-use Rattle.text.specs.Place.{Wrote}
+use mathlib.Core.Path.{refl}
 use Rattle.text.proofs.Writing.{wrote_none, wrote_long, text_more, text_done}
 use Rattle.text.proofs.digits.put_text.Goals as goal
 

@@ -1,10 +1,8 @@
 -- `text::digits::put_text` meets its contract. Assumes nothing.
-use native.Mathlib.Omega.{arith}
 use Prim.Native.Nat.{◌+◌, ◌-◌, ◌≤◌}
-use mathlib.Core.Path.{◌≡◌, refl}
+use mathlib.Core.Path.{◌≡◌}
 use lib.ListN.{length, take}
 use Rattle.text.specs.Place.{Wrote}
-use Rattle.text.proofs.Writing.{wrote_none, wrote_long, text_more, text_done}
 use Rattle.text.proofs.digits.put_text.Given as goal
 
 abbrev pub invariant-loop-j : goal.invariant-loop-j

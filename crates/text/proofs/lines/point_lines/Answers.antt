@@ -1,11 +1,10 @@
 use native.Mathlib.Omega.{arith}
-use Prim.Native.Nat.{◌+◌, ◌*◌, ◌-◌, ◌/◌, ◌≤◌}
-use mathlib.Core.Path.{◌≡◌, refl}
+use Prim.Native.Nat.{◌/◌}
+use mathlib.Core.Path.{refl}
 use lib.ListN.{length}
 use Rattle.laws.specs.Loop.{turns}
 use Rattle.text.specs.Lines.{point_line, point_lines}
-use Rattle.text.specs.Place.{Wrote}
-use Rattle.text.proofs.Writing.{wrote_none, wrote_long, pieces, piece_more, piece_done}
+use Rattle.text.proofs.Writing.{wrote_none, wrote_long, piece_more, piece_done}
 use Rattle.text.proofs.lines.point_lines.Goals as goal
 
 pub loop-i-init : goal.loop-i-init

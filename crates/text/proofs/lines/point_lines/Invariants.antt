@@ -1,12 +1,10 @@
 -- `text::lines::point_lines` meets its contract. Assumes nothing.
-use native.Mathlib.Omega.{arith}
-use Prim.Native.Nat.{◌+◌, ◌*◌, ◌-◌, ◌/◌, ◌≤◌}
-use mathlib.Core.Path.{◌≡◌, refl}
+use Prim.Native.Nat.{◌+◌, ◌*◌, ◌-◌, ◌≤◌}
+use mathlib.Core.Path.{◌≡◌}
 use lib.ListN.{length}
-use Rattle.laws.specs.Loop.{turns}
-use Rattle.text.specs.Lines.{point_line, point_lines}
+use Rattle.text.specs.Lines.{point_line}
 use Rattle.text.specs.Place.{Wrote}
-use Rattle.text.proofs.Writing.{wrote_none, wrote_long, pieces, piece_more, piece_done}
+use Rattle.text.proofs.Writing.{pieces}
 use Rattle.text.proofs.lines.point_lines.Given as goal
 
 abbrev pub invariant-loop-i : goal.invariant-loop-i

@@ -1,5 +1,4 @@
 -- `text::lines::refused_floats` meets its contract. Assumes nothing.
-use mathlib.Core.Path.{◌∙◌}
 use native.Mathlib.Omega.{arith}
 use Rattle.text.proofs.Writing.{then}
 use Rattle.text.specs.Lines.{refused_floats}
