@@ -1,0 +1,9 @@
+-- `search::counted` meets its contract. Assumes nothing.
+use Rattle.search.specs.Search.{counted_of}
+use mathlib.Core.Path.{refl}
+use borrow.Author.Rules.{rules}
+use Rattle.search.proofs.counted.Goals as goal
+
+pub returns : goal.returns
+unfolding counted_of
+returns c = refl

@@ -1,0 +1,16 @@
+-- `search::grid::considered` meets its contract. Assumes nothing.
+use mathlib.Core.Path.{sym, ◌∙◌}
+use Rattle.search.specs.Search.{consider}
+use borrow.Author.Rules.{rules}
+use Rattle.search.proofs.grid.considered.Goals as goal
+
+pub better_than-requires : goal.better_than-requires
+better_than-requires c = tt
+
+pub returns-then-better_than : goal.returns-then-better_than
+unfolding consider
+returns-then-better_than c = rw (sym c.better_than.ensures ∙ c.if-better_than.true)
+
+pub returns : goal.returns
+unfolding consider
+returns c = rw (sym c.better_than.ensures ∙ c.if-better_than.false)
