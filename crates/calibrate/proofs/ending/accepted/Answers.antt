@@ -2,13 +2,14 @@
 use Rattle.laws.specs.Floats.{◌-f◌, +0}
 use Rattle.slice.specs.Slice.{lee_bound}
 use Rattle.calibrate.specs.End.{accepted_of}
-use Rattle.calibrate.proofs.ending.accepted.Statement.{statement}
-use Rattle.calibrate.proofs.ending.accepted.Tie as tie
+use Rattle.calibrate.proofs.ending.accepted.Goals as goal
 
-returns : tie.Need-returns
+pub lee-steep-requires : goal.lee-steep-requires
+lee-steep-requires c = tt
+
+pub returns : goal.returns
 unfolding accepted_of
-returns c =
-    let a = c.before.before.before.args in
+returns c = let a = c.args in
     λ i.
     record {
       number = 0;
@@ -19,12 +20,9 @@ returns c =
       slice = a.s;
       objective = a.objective;
       objective_params = a.params;
-      lee_margin = lee_bound -f c.before.before.lee.ensures i;
+      lee_margin = lee_bound -f c.lee-steep.ensures i;
       a_margin = a.s.a -f a.config.a_min;
       active = a.active;
       counts = a.counts;
       capped = 0;
     }
-
-pub accepted-spec : {M : Type 1} → statement M
-accepted-spec = tie.close (tie.spec (λ c κs. tt) returns)

@@ -1,0 +1,25 @@
+use mathlib.Core.Logic.{⊎_elim}
+use Prim.Native.Nat.{◌-◌}
+use lib.ListN.{length}
+use Rattle.calibrate.proofs.Listing.{Listed, listed_start, listed_yes, listed_no, listed_end}
+use native.Mathlib.Omega.{arith}
+use Rattle.calibrate.proofs.writing.list_capped.Goals as goal
+use Rattle.calibrate.proofs.writing.list_capped.Goals.{then-ws-i, else-ws-i}
+
+pub loop-i-init : goal.loop-i-init
+loop-i-init c = listed_start _ _ _
+
+pub loop-i-preserved : goal.loop-i-preserved
+loop-i-preserved c = let l = c.loop-i in
+    let a = c.args in
+    let t = c.loop-i-test.true in
+    elim c.if-ws-i.branch [
+      then-ws-i w ↦ rw (w.out-is, w.n-is) (listed_yes a.cap a.ws.now l.i l.n a.out.now l.out t c.requires w.if-ws-i.true l.invariant)
+    | else-ws-i w ↦ rw (w.out-is, w.n-is) (listed_no a.cap a.ws.now l.i l.n a.out.now l.out t w.if-ws-i.false l.invariant)
+    ]
+
+pub shape_of-out : goal.shape_of-out
+shape_of-out c = c.loop-i.invariant.long
+
+pub returns : goal.returns
+returns c = listed_end _ _ _ _ _ _ c.loop-i-test.false c.loop-i.invariant
