@@ -2,8 +2,7 @@
 ghost use Rattle.std.specs.Prelude.{◌≡◌};
 ghost use Rattle.port.specs.Abi.{abi_number};
 
-#[unsafe(no_mangle)]
-pub extern "C" fn port_abi() -> u32
+pub fn port_abi() -> u32
     ensures { result ≡ abi_number }
 {
     4

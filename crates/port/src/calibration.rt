@@ -17,8 +17,7 @@ fn outcome_counts(o: Outcome) -> [usize; 11]
 }
 
 // The default settings. sizes: grid, refinements, max_recentres, min_observations; reals: sigma_lo, sigma_hi, a_min, max_rmse_vol, pivot_tolerance, feasibility_tolerance, max_weight_ratio.
-#[unsafe(no_mangle)]
-pub extern "C" fn port_raw_default_config(sizes: &mut [usize; 4], reals: &mut [f64; 7])
+pub fn port_raw_default_config(sizes: &mut [usize; 4], reals: &mut [f64; 7])
     ensures sizes_after { sizes.new ≡ sizes_row defaults_of }
     ensures reals_after { reals.new ≡ reals_row defaults_of }
 {
@@ -37,8 +36,7 @@ pub extern "C" fn port_raw_default_config(sizes: &mut [usize; 4], reals: &mut [f
 
 // The fit: room for four residual numbers and one capped position an observation is lent, and written only by an accepted answer.
 // counts: observed, required, passes, recentres, shrinks, cells, faces, updates, capped; values: rmse_vol, max_rmse_vol, the slice's eight, objective, objective_params, lee_margin, a_margin.
-#[unsafe(no_mangle)]
-pub extern "C" fn port_raw_fit_slice(
+pub fn port_raw_fit_slice(
     tau: f64,
     sizes: &[usize; 4],
     reals: &[f64; 7],
@@ -66,8 +64,7 @@ pub extern "C" fn port_raw_fit_slice(
 
 // The fit of quotes of 32 bytes each, as in a house file: repeats are dropped, and room is lent for every quote that comes in.
 // counts: read, kept, then the nine of port_raw_fit_slice; values and active as there.
-#[unsafe(no_mangle)]
-pub extern "C" fn port_raw_fit_quotes(
+pub fn port_raw_fit_quotes(
     tau: f64,
     sizes: &[usize; 4],
     reals: &[f64; 7],

@@ -1,4 +1,5 @@
-// What C and Rust link: nothing but calls. They take and return numbers and pointers alone: a record crosses as rows of numbers, which every machine and language reads alike.
+// What other languages call, which crate port_c exports: nothing but calls. They take and return numbers and what pointers lead to: a record crosses as rows of numbers, which every machine and
+// language reads alike.
 #![tactic(auto)]
 
 pub mod abi; // abi.rt: the number of this interface

@@ -8,8 +8,7 @@ ghost use Rattle.rows.specs.Rows.{read_range, read_slice, range_row, slice_row, 
 use slice::{KRange, SviSlice};
 
 // range: lo, hi.
-#[unsafe(no_mangle)]
-pub extern "C" fn port_raw_k_range(lo: f64, hi: f64, range: &mut [f64; 2]) -> u32
+pub fn port_raw_k_range(lo: f64, hi: f64, range: &mut [f64; 2]) -> u32
     ensures value { result ≡ (range_answer (ranged_of lo hi)).number }
     ensures range_after { range.new ≡ range_row (range_answer (ranged_of lo hi)).range }
 {
@@ -20,16 +19,14 @@ pub extern "C" fn port_raw_k_range(lo: f64, hi: f64, range: &mut [f64; 2]) -> u3
 }
 
 // range: lo, hi. 1 where k is inside, ends included, else 0.
-#[unsafe(no_mangle)]
-pub extern "C" fn port_raw_contains(range: &[f64; 2], k: f64) -> u32
+pub fn port_raw_contains(range: &[f64; 2], k: f64) -> u32
     ensures { result ≡ flag (holds_k (read_range range.now) k) }
 {
     bits::pick_number(KRange::contains(rows::slices::read_range(range), k), 1, 0)
 }
 
 // range: lo, hi. slice: tau, a, b, rho, m, sigma, k_range.lo, k_range.hi.
-#[unsafe(no_mangle)]
-pub extern "C" fn port_raw_slice(
+pub fn port_raw_slice(
     tau: f64,
     a: f64,
     b: f64,
@@ -66,8 +63,7 @@ pub extern "C" fn port_raw_slice(
 }
 
 // slice as port_raw_slice writes it. value: the smallest total variance.
-#[unsafe(no_mangle)]
-pub extern "C" fn port_raw_minimum(slice: &[f64; 8], value: &mut [f64; 1]) -> u32
+pub fn port_raw_minimum(slice: &[f64; 8], value: &mut [f64; 1]) -> u32
     ensures value { result ≡ (level_answer (minimum_of (read_slice slice.now))).number }
     ensures value_after { value.new ≡ (level_answer (minimum_of (read_slice slice.now))).value ∷ [] }
 {
@@ -77,8 +73,7 @@ pub extern "C" fn port_raw_minimum(slice: &[f64; 8], value: &mut [f64; 1]) -> u3
 }
 
 // slice as port_raw_slice writes it. value: the slope of the steeper wing.
-#[unsafe(no_mangle)]
-pub extern "C" fn port_raw_lee_slope(slice: &[f64; 8], value: &mut [f64; 1]) -> u32
+pub fn port_raw_lee_slope(slice: &[f64; 8], value: &mut [f64; 1]) -> u32
     ensures value { result ≡ (level_answer (lee_slope_of (read_slice slice.now))).number }
     ensures value_after { value.new ≡ (level_answer (lee_slope_of (read_slice slice.now))).value ∷ [] }
 {
@@ -88,8 +83,7 @@ pub extern "C" fn port_raw_lee_slope(slice: &[f64; 8], value: &mut [f64; 1]) -> 
 }
 
 // slice as port_raw_slice writes it. values: w, w_k, w_kk.
-#[unsafe(no_mangle)]
-pub extern "C" fn port_raw_eval(slice: &[f64; 8], k: f64, values: &mut [f64; 3]) -> u32
+pub fn port_raw_eval(slice: &[f64; 8], k: f64, values: &mut [f64; 3]) -> u32
     ensures value { result ≡ (values_answer (eval_of (read_slice slice.now) k)).number }
     ensures values_after { values.new ≡ values_row (values_answer (eval_of (read_slice slice.now) k)) }
 {

@@ -7,8 +7,7 @@ ghost use Rattle.rows.specs.Rows.{read_limits, cell_counts, cell_values};
 
 // m x = rhs in n unknowns: 1 where there is a solution, else 0. m: six rows of six; x: the six numbers of the solution.
 // updates: how many entries of the matrix the elimination updates, also before a refusal.
-#[unsafe(no_mangle)]
-pub extern "C" fn port_raw_solve(
+pub fn port_raw_solve(
     m: &[f64; 36],
     rhs: &[f64; 6],
     n: usize,
@@ -31,8 +30,7 @@ pub extern "C" fn port_raw_solve(
 
 // The cell (m, sigma) over observations k, w and scaled weights: 1 where a face qualifies, else 0.
 // limits: a_min, a_max, pivot_tolerance, feasibility_tolerance; counts: the faces tried, and the entries that their eliminations update; values: the objective, then x; active: the seven constraints.
-#[unsafe(no_mangle)]
-pub extern "C" fn port_raw_cell(
+pub fn port_raw_cell(
     k: &[f64],
     w: &[f64],
     scaled: &[f64],

@@ -16,21 +16,13 @@ use surface::types::ShortExpiryPolicy;
 
 // ---- one point
 
-#[unsafe(no_mangle)]
-pub extern "C" fn port_check_point(k: f64, tau: f64) -> u32
+pub fn port_check_point(k: f64, tau: f64) -> u32
     ensures { result ≡ point_number k tau }
 {
     point::check_point(k, tau)
 }
 
-#[unsafe(no_mangle)]
-pub extern "C" fn port_raw_total(
-    w: f64,
-    w_k: f64,
-    w_kk: f64,
-    w_tau: f64,
-    total: &mut [f64; 4],
-) -> u32
+pub fn port_raw_total(w: f64, w_k: f64, w_kk: f64, w_tau: f64, total: &mut [f64; 4]) -> u32
     ensures { (result ≡ (total_answer (total_of w w_k w_kk w_tau)).number) × (total.new ≡ total_row (total_answer (total_of w w_k w_kk w_tau))) }
 {
     rows::answers::write_total(TotalVariance::new(w, w_k, w_kk, w_tau), total)
@@ -39,23 +31,20 @@ pub extern "C" fn port_raw_total(
 // ---- a lent run of slices
 
 // The policy for a caller who has no wish of his own.
-#[unsafe(no_mangle)]
-pub extern "C" fn port_default_policy() -> u32
+pub fn port_default_policy() -> u32
     ensures { result ≡ policy_number default_policy }
 {
     rows::answers::policy_number(ShortExpiryPolicy::default())
 }
 
-#[unsafe(no_mangle)]
-pub extern "C" fn port_surface(slices: &[SviSlice]) -> u32
+pub fn port_surface(slices: &[SviSlice]) -> u32
     ensures { result ≡ check_run (run_of slices.now) }
 {
     surface::run::check_run(surface::copied(slices))
 }
 
 // Where (k, tau) lies. places: below (1 or 0), lo, hi; x: the weight of hi.
-#[unsafe(no_mangle)]
-pub extern "C" fn port_raw_bracket(
+pub fn port_raw_bracket(
     slices: &[SviSlice],
     policy: u32,
     k: f64,
@@ -68,8 +57,7 @@ pub extern "C" fn port_raw_bracket(
     rows::answers::bracket_of(surface::copied(slices), policy, k, tau, places, x)
 }
 
-#[unsafe(no_mangle)]
-pub extern "C" fn port_raw_region(
+pub fn port_raw_region(
     slices: &[SviSlice],
     policy: u32,
     k: f64,
@@ -81,8 +69,7 @@ pub extern "C" fn port_raw_region(
     rows::answers::region_of(surface::copied(slices), policy, k, tau, calibrated)
 }
 
-#[unsafe(no_mangle)]
-pub extern "C" fn port_raw_total_variance(
+pub fn port_raw_total_variance(
     slices: &[SviSlice],
     policy: u32,
     k: f64,
@@ -94,8 +81,7 @@ pub extern "C" fn port_raw_total_variance(
     rows::answers::total_of(surface::copied(slices), policy, k, tau, total)
 }
 
-#[unsafe(no_mangle)]
-pub extern "C" fn port_raw_covers_nodes(
+pub fn port_raw_covers_nodes(
     slices: &[SviSlice],
     ks: &[f64],
     taus: &[f64],
@@ -109,8 +95,7 @@ pub extern "C" fn port_raw_covers_nodes(
 // ---- diagnostics
 
 // counts: points, violations, found (1 or 0) of the butterflies, of the slopes, of the gaps, then the failures; worst: k, tau, value of each of the three.
-#[unsafe(no_mangle)]
-pub extern "C" fn port_raw_diagnose(
+pub fn port_raw_diagnose(
     slices: &[SviSlice],
     policy: u32,
     ks: &[f64],
@@ -137,22 +122,14 @@ pub extern "C" fn port_raw_diagnose(
 }
 
 // The tally is lent, and updated where it stands.
-#[unsafe(no_mangle)]
-pub extern "C" fn port_raw_check_record(
-    check: &mut Check,
-    k: f64,
-    tau: f64,
-    value: f64,
-    tolerance: f64,
-)
+pub fn port_raw_check_record(check: &mut Check, k: f64, tau: f64, value: f64, tolerance: f64)
     ensures { check.new ≡ recorded_of check.old (point_at k tau value) tolerance }
 {
     check.record(DiagnosticPoint { k, tau, value }, tolerance);
 }
 
 // counts: points, violations, found (0 for no, any other number for yes); worst: k, tau, value.
-#[unsafe(no_mangle)]
-pub extern "C" fn port_raw_check_clean(counts: &[usize; 3], worst: &[f64; 3]) -> u32
+pub fn port_raw_check_clean(counts: &[usize; 3], worst: &[f64; 3]) -> u32
     ensures { result ≡ flag (is_clean (check_at 0 counts.now worst.now)) }
 {
     bits::pick_number(
@@ -163,8 +140,7 @@ pub extern "C" fn port_raw_check_clean(counts: &[usize; 3], worst: &[f64; 3]) ->
 }
 
 // The rows that port_raw_diagnose writes.
-#[unsafe(no_mangle)]
-pub extern "C" fn port_raw_report_clean(counts: &[usize; 10], worst: &[f64; 9]) -> u32
+pub fn port_raw_report_clean(counts: &[usize; 10], worst: &[f64; 9]) -> u32
     ensures { result ≡ flag (report_clean (report_at counts.now worst.now)) }
 {
     bits::pick_number(
