@@ -27,7 +27,7 @@ class Item:
         self.public = False
         self.exported = False
         self.params = self.result = ""
-        self.clauses = []  # (keyword, text) in order
+        self.clauses = []  # (keyword, text) in order; the name that a clause may have is left out
         self.fields = ()
 
     def full(self):
@@ -36,12 +36,14 @@ class Item:
 
 
 class Crate:
-    def __init__(self, root, name):
-        self.root, self.name, self.items, self.problems = root, name, [], []
+    """`library`: other crates can stand on it; `static`: it is a static library, which exports to C and on which no crate stands."""
+
+    def __init__(self, root, name, static=False):
+        self.root, self.name, self.static, self.items, self.problems = root, name, static, [], []
         self.folder = os.path.join(root, "crates", name, "src")
         self.modules = {}  # module -> reached by `pub mod` alone
         start = next((f for f in ("lib.rt", "main.rt") if os.path.exists(os.path.join(self.folder, f))), None)
-        self.library = start == "lib.rt"
+        self.library = start == "lib.rt" and not static
         self.read_files = set()
         if start:
             self.module_file((), True, os.path.join(self.folder, start))
@@ -184,13 +186,13 @@ class Reader:
 
 
 def listed(root):
-    """The crates of crates.txt, in order."""
+    """The crates of crates.txt, in order: the name, and whether it is a static library."""
     for line in open(os.path.join(root, "crates.txt"), encoding="utf-8"):
-        line = line.split("#")[0].strip()
-        if line:
-            yield line.split(":")[0].strip()
+        words = line.split("#")[0].split(":")[0].split()
+        if words:
+            yield words[0], "staticlib" in words[1:]
 
 
 def crates(root):
-    """Name -> Crate, for every listed crate that stands in the tree (io, libc, os and the like are the toolchain's)."""
-    return {name: Crate(root, name) for name in listed(root)}
+    """Name -> Crate, for every crate of crates.txt (what a line names after its colon may be a library of the toolchain)."""
+    return {name: Crate(root, name, static) for name, static in listed(root)}

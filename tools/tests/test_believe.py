@@ -9,25 +9,25 @@ import unittest
 from support import ROOT
 
 WORDS = """-- Definitions only.
-use Prim.Native.Nat.{ℕ, suc}
-use Rattle·base·specs.specs.declared.Pair.{Pair}
+use Rattle.std.specs.Prelude.{ℕ, suc}
+use Rattle.base.specs.declared.Pair.{Pair}
 
 -- two lines
 abbrev pub deep : ℕ → ℕ
 deep n = suc n
 
 -- three lines, and a name that is reached through an operator
-infixl 60 _+w_
-abbrev pub _+w_ : ℕ → ℕ → ℕ
+infixl 60 ◌+w◌
+abbrev pub ◌+w◌ : ℕ → ℕ → ℕ
 a +w b = deep a
 
 -- two lines; `low` and `high` are fields here, and no words
-unfoldable pub pairOf : ℕ → Pair
+unfoldable pub pair_of : ℕ → Pair
 unfolding deep
-pairOf n = record { low = n; high = n }
+pair_of n = record { low = n; high = n }
 
 abbrev pub low : Pair → ℕ
-low p = p .high
+low p = p.high
 
 abbrev pub high : ℕ
 high = 0
@@ -35,7 +35,7 @@ high = 0
 
 LIB = """pub mod open; // open.rt
 mod hidden; // hidden.rt
-ghost use Rattle·base·specs.specs.Words.{_+w_, low};
+ghost use Rattle.base.specs.Words.{◌+w◌, low};
 
 // A comment that names low.
 pub struct Pair {
@@ -44,49 +44,52 @@ pub struct Pair {
 }
 
 fn inside(p: Pair) -> u64
-    ensures { λ r. ⌜ r ≡ low p ⌝ }
+    ensures { result ≡ low p }
 {
     p.high
 }
 
 pub fn sum(a: u64, b: u64) -> u64
-    ensures { λ r. ⌜ r ≡ a +w b ⌝ }
+    ensures { result ≡ a +w b }
 {
     a + 1
 }
 """
 
-OPEN = """ghost use Rattle·base·specs.specs.Words.{pairOf, low};
+OPEN = """ghost use Rattle.base.specs.Words.{pair_of, low};
 use crate::Pair;
 
 pub(crate) fn lower(p: Pair) -> u64
-    ensures { λ r. ⌜ r ≡ low p ⌝ }
+    ensures { result ≡ low p }
 {
     p.high
 }
 
 impl Pair {
     pub fn of(n: u64) -> Pair
-        ensures { λ r. ⌜ r ≡ pairOf n ⌝ }
+        ensures { result ≡ pair_of n }
     {
         Pair { low: n, high: n }
     }
 }
 """
 
-HIDDEN = """ghost use Rattle·base·specs.specs.Words.{high};
+HIDDEN = """ghost use Rattle.base.specs.Words.{high};
 
 pub fn most() -> u64
-    ensures { λ r. ⌜ r ≡ high ⌝ }
+    ensures { result ≡ high }
 {
     0
 }
 """
 
-PORT = """ghost use Rattle·base.specs.Words.{_+w_ as _plus_};
+# its clauses have names, and one of them brackets
+PORT = """ghost use Rattle.base.specs.Words.{◌+w◌ as ◌plus◌};
 
-pub extern "C" fn port_sum(a: u64, b: u64) -> u64
-    ensures { λ r. ⌜ r ≡ a plus b ⌝ }
+pub fn port_sum(a: u64, b: u64) -> u64
+    requires { a ≤ b }
+    ensures value { result ≡ a plus b }
+    ensures in_brackets { record { low = result } ≡ record { low = a } }
 {
     base::sum(a, b)
 }
@@ -119,7 +122,7 @@ class Believe(unittest.TestCase):
     def test_refuses_a_word_of_proofs(self):
         done = self.believe(changed={"port/src/lib.rt": PORT.replace("base.specs.Words", "base.proofs.Words")})
         self.assertEqual((done.returncode, done.stdout), (1, ""))
-        self.assertIn("base/proofs.Words·_+w_ is no declaration of specs/", done.stderr)
+        self.assertIn("base/proofs.Words·◌+w◌ is no declaration of specs/", done.stderr)
 
 
 if __name__ == "__main__":

@@ -11,16 +11,16 @@ from support import Case, program
 HEAD = "| Sentence | Definition, contract | Theorem | Edit |\n|---|---|---|---|\n"
 SPECS = """\
 -- a definition
-unfoldable pub sizeOf : List ℕ → ℕ
-sizeOf l = length l
+unfoldable pub size_of : List ℕ → ℕ
+size_of l = length l
 
 pub record Answer : Type 0 where
   pub number : ℕ
 """
 PROOFS = """\
-pub size-grows : (l : List ℕ) (x : ℕ)
-    → sizeOf l ≤ sizeOf (x ∷ l)
-size-grows l x = search needs
+pub size_grows : (l : List ℕ) (x : ℕ)
+    → size_of l ≤ size_of (x ∷ l)
+size_grows l x = search rules
 
 pub half : ℕ → ℕ
 half n = n / 2
@@ -41,11 +41,11 @@ pub record Counted (n : ℕ) : Type 0 where
   pub most : n ≤ 64
 """
 SOURCES = {
-    "lib.rt": "pub mod lengths;\nmod rows;\npub const LIMIT: u64 = 3;\npub fn top(x: u64) -> u64\n    ensures { λ r. ⌜ r ≡ x ⌝ }\n{\n    x\n}\nfn bare(x: u64) -> u64 { x }\n"
-    "pub struct Pair {\n    pub a: u64,\n}\nimpl Pair {\n    pub const ONE: u64 = 1;\n    pub fn new(a: u64) -> Pair\n        ensures { λ r. ⌜ r ≡ pairOf a ⌝ }\n    {\n        Pair { a }\n    }\n}\n",
-    "lengths.rt": "pub mod deep;\npub fn with_one(x: u64) -> u64\n    ensures { λ r. ⌜ r ≡ x ⌝ }\n{\n    x\n}\n",
-    "lengths/deep.rt": "pub fn lowest(x: u64) -> u64 ensures { λ r. ⌜ r ≡ x ⌝ } { x }\n",
-    "rows.rt": "pub(crate) fn step(x: u64) -> u64\n    ensures { λ r. ⌜ r ≡ x ⌝ }\n{\n    x\n}\n",
+    "lib.rt": "pub mod lengths;\nmod rows;\npub const LIMIT: u64 = 3;\npub fn top(x: u64) -> u64\n    ensures { result ≡ x }\n{\n    x\n}\nfn bare(x: u64) -> u64 { x }\n"
+    "pub struct Pair {\n    pub a: u64,\n}\nimpl Pair {\n    pub const ONE: u64 = 1;\n    pub fn new(a: u64) -> Pair\n        ensures { result ≡ pair_of a }\n    {\n        Pair { a }\n    }\n}\n",
+    "lengths.rt": "pub mod deep;\npub fn with_one(x: u64) -> u64\n    ensures { result ≡ x }\n{\n    x\n}\n",
+    "lengths/deep.rt": "pub fn lowest(x: u64) -> u64 ensures { result ≡ x } { x }\n",
+    "rows.rt": "pub(crate) fn step(x: u64) -> u64\n    ensures { result ≡ x }\n{\n    x\n}\n",
 }
 
 
@@ -83,11 +83,11 @@ class Promises(Case):
         self.assertEqual(self.row(**cells), [])
 
     def test_a_whole_row(self):
-        self.fine(definition="`a/specs/Sizes·sizeOf`, `a::top`", theorem="`a/proofs/Grows·size-grows`", edit="`a!wrong`")
+        self.fine(definition="`a/specs/Sizes·size_of`, `a::top`", theorem="`a/proofs/Grows·size_grows`", edit="`a!wrong`")
 
     def test_names_that_are_not_there(self):
         self.assertEqual(self.row(definition="`a/specs/Sizes·size`"), ["a/specs/Sizes·size is not there"])
-        self.assertEqual(self.row(definition="`b/specs/Sizes·sizeOf`"), ["b/specs/Sizes·sizeOf is not there"])
+        self.assertEqual(self.row(definition="`b/specs/Sizes·size_of`"), ["b/specs/Sizes·size_of is not there"])
         self.assertEqual(self.row(theorem="`a/proofs/Grows·size`"), ["a/proofs/Grows·size is not there"])
         self.assertEqual(self.row(edit="`a!right`"), ["a!right is not there"])
 
@@ -115,7 +115,7 @@ class Promises(Case):
         self.fine(theorem="`a/proofs/Grows·inside`")
 
     def test_definitions_are_no_theorems(self):
-        for word in ("a/specs/Sizes·sizeOf", "a/proofs/Grows·half", "a/proofs/Grows·Rising", "a/proofs/Grows·Short"):
+        for word in ("a/specs/Sizes·size_of", "a/proofs/Grows·half", "a/proofs/Grows·Rising", "a/proofs/Grows·Short"):
             self.assertEqual(self.row(theorem=f"`{word}`"), [f"{word} stands under Theorem and is a definition"])
 
     def test_a_record_as_the_statement(self):
@@ -127,16 +127,16 @@ class Promises(Case):
 
     def test_other_things_under_definition(self):
         self.fine(definition="`a/specs/Sizes·Answer`")
-        self.assertEqual(self.row(definition="`a/proofs/Grows·size-grows`"), ["a/proofs/Grows·size-grows stands under Definition and is of proofs/"])
+        self.assertEqual(self.row(definition="`a/proofs/Grows·size_grows`"), ["a/proofs/Grows·size_grows stands under Definition and is of proofs/"])
 
     def test_edits_in_their_column_and_nothing_else(self):
         for cell in ("definition", "theorem"):
             self.assertEqual(self.row(**{cell: "`a!wrong`"}), ["a!wrong is an edit and does not stand under Edit"])
-        for word in ("a/specs/Sizes·sizeOf", "a/proofs/Grows·size-grows", "a::top"):
+        for word in ("a/specs/Sizes·size_of", "a/proofs/Grows·size_grows", "a::top"):
             self.assertEqual(self.row(edit=f"`{word}`"), [f"{word} stands under Edit and is none"])
 
     def test_any_kind_in_other_columns(self):
-        self.assertEqual(self.look("| Sentence | Where |\n|---|---|\n| x | `a!wrong`, `a/proofs/Grows·size-grows`, `a/specs/Sizes·sizeOf`, `a::top` |\n"), [])
+        self.assertEqual(self.look("| Sentence | Where |\n|---|---|\n| x | `a!wrong`, `a/proofs/Grows·size_grows`, `a/specs/Sizes·size_of`, `a::top` |\n"), [])
 
     def test_words_that_name_nothing_here(self):
         self.fine(definition="`requires`, `[f64; 36]`, `read 9 kept 1`, `&mut`")

@@ -8,7 +8,7 @@ from unittest import mock
 
 from support import Case, program
 
-CONTRACT = "ensures { λ r. ⌜ r ≡ f x ⌝ }"
+CONTRACT = "ensures { result ≡ f x }"
 
 
 def function(name, head="pub fn", contract=CONTRACT):
@@ -61,10 +61,10 @@ class Settle(Case):
         self.assertEqual(self.settled({"lib.rt": "pub mod shown {\n" + function("seen") + "}\nmod hidden {\n" + function("unseen") + "}\n"}), ["seen"])
 
     def test_a_type_of_a_deep_module(self):
-        files = {"lib.rt": "pub mod deep;\npub fn f(x: Pair) -> u64\n    ensures { λ r. ⌜ r ≡ g x ⌝ }\n{\n    1\n}\n", "deep.rt": "pub mod x;\n", "deep/x.rt": "pub struct Pair {\n    pub a: u64,\n}\n"}
+        files = {"lib.rt": "pub mod deep;\npub fn f(x: Pair) -> u64\n    ensures { result ≡ g x }\n{\n    1\n}\n", "deep.rt": "pub mod x;\n", "deep/x.rt": "pub struct Pair {\n    pub a: u64,\n}\n"}
         self.assertEqual(self.settled(files), ["f"])
         with open(os.path.join(self.folder, "crates/uniqueness/proofs/SettledA.antt"), encoding="utf-8") as file:
-            self.assertIn("use Rattle·a.specs.declared.deep.x.Pair.{Pair}", file.read())
+            self.assertIn("use Rattle.a.specs.declared.deep.x.Pair.{Pair}", file.read())
 
     def test_a_source_that_is_in_no_module(self):
         self.tree({"lib.rt": function("top"), "deep/x.rt": function("lost")})
@@ -89,16 +89,29 @@ class Settle(Case):
         self.assertEqual(self.settled({"lib.rt": "pub const N: [u64; 2] = [1, 2];\n" + function("f", "pub const fn")}), ["f"])
 
     def test_brackets_in_quotes_and_comments(self):
-        text = "// pub fn { not this (\npub fn one(x: u64) -> u64\n    ensures { λ r. ⌜ r ≡ size \"}\" ⌝ }\n{\n    let c = b'{';\n    x // }\n}\n" + function("two")
+        text = "// pub fn { not this (\npub fn one(x: u64) -> u64\n    ensures { result ≡ size \"}\" }\n{\n    let c = b'{';\n    x // }\n}\n" + function("two")
         self.assertEqual(self.settled({"lib.rt": text}), ["one", "two"])
 
     def test_a_condition(self):
-        self.tree({"lib.rt": function("f", contract="requires { ⌜ x ≡ x ⌝ }\n    " + CONTRACT)})
+        self.tree({"lib.rt": function("f", contract="requires { x ≡ x }\n    " + CONTRACT)})
         self.assertIn("settle: a::f has a requires", self.settle("--check")[1])
 
-    def test_a_clause_that_is_not_read(self):
-        self.tree({"lib.rt": function("f", contract=CONTRACT + "\n    ensures { something else }")})
-        self.assertIn("settle: a::f has an `ensures` that is not of the form λ r. ⌜ .. ⌝", self.settle("--check")[1])
+    def lemmas(self, text):
+        """The file that it writes for one file of sources, without its head."""
+        self.settled({"lib.rt": text})
+        with open(os.path.join(self.folder, "crates/uniqueness/proofs/SettledA.antt"), encoding="utf-8") as file:
+            return file.read().split("\n\n", 1)[1]
+
+    def test_clauses_with_names_and_what_is_lent(self):
+        text = "pub fn f(a: &[u64], b_b: &mut [u64]) -> u64\n    ensures value { result ≡ g a.now b_b.old }\n    ensures room { b_b.new ≡ h b_b.old result }\n{\n    1\n}\n"
+        said = "→ ((r{0} ≡ g a b_b) × (b-b-exit{0} ≡ h b_b r{0})) "
+        self.assertEqual(self.lemmas(text), (
+            "-- a::f\npub f : (a : List ℕ) (b_b : List ℕ) {r₁ r₂ : ℕ} {b-b-exit₁ b-b-exit₂ : List ℕ} "
+            + said.format("₁") + said.format("₂") + "→ (r₁ ≡ r₂) × (b-b-exit₁ ≡ b-b-exit₂)\nf a b_b {r₁} {r₂} {b-b-exit₁} {b-b-exit₂} h₁ h₂ = (cc, cc)\n"))
+
+    def test_a_lemma_with_the_name_of_a_definition(self):
+        text = "ghost use Rattle.a.specs.Words.{f, g};\npub fn f(x: u64) -> u64\n    ensures { result ≡ f x }\n{\n    1\n}\npub fn g(x: u64) -> u64\n    ensures { result ≡ x }\n{\n    x\n}\n"
+        self.assertEqual([line.split(" :")[0] for line in self.lemmas(text).splitlines() if line.startswith("pub ")], ["pub f_lem", "pub g"])
 
     def test_private_modules_and_functions(self):
         files = {
@@ -108,10 +121,28 @@ class Settle(Case):
         self.assertEqual(self.settled(files), ["top", "shown"])
 
     def test_an_export_of_a_private_module(self):
-        self.assertEqual(self.settled({"lib.rt": "mod c;\n", "c.rt": "#[no_mangle]\n" + function("port_f", "pub extern \"C\" fn") + function("hidden")}), ["port_f"])
+        self.assertEqual(self.settled({"lib.rt": "mod c;\n", "c.rt": "#[unsafe(no_mangle)]\n" + function("port_f", "pub extern \"C\" fn") + function("hidden")}), ["port_f"])
+
+    def exported(self, *functions):
+        """What is wrong where a static library has these exports over crate `a`."""
+        self.settled({"lib.rt": function("f") + function("g")})
+        self.write("crates.txt", "a:\na_c staticlib: a\nuniqueness: a\n")
+        self.write("crates/a_c/src/lib.rt", "".join("#[unsafe(no_mangle)]\n" + text for text in functions))
+        status, lines = self.settle("--check")
+        self.assertEqual(status, 1 if lines[1:] else 0)
+        return lines[:-1]
+
+    def test_exports_of_a_static_library(self):
+        export = 'pub extern "C" fn'
+        self.assertEqual(self.exported(function("f", export), function("g", export)), [])
+        wrong = "settle: a_c::f has not the contract of the function of its name"
+        self.assertEqual(self.exported(function("f", export, contract="ensures { result ≡ g x }")), [wrong])
+        self.assertEqual(self.exported(function("f", export, contract=CONTRACT + "\n    " + CONTRACT)), [wrong])
+        self.assertEqual(self.exported(function("f", export).replace("(x: u64)", "(x: u32)")), [wrong])
+        self.assertEqual(self.exported(function("other", export)), ["settle: a_c::other has not the contract of the function of its name: there are 0"])
 
     def test_methods_are_as_public_as_their_type(self):
-        method = "    pub fn {}(self) -> u64\n        ensures {{ λ r. ⌜ r ≡ f self ⌝ }}\n    {{\n        1\n    }}\n"
+        method = "    pub fn {}(self) -> u64\n        ensures {{ result ≡ f self }}\n    {{\n        1\n    }}\n"
         files = {
             "lib.rt": "mod rows;\npub struct Pair {\n    pub a: u64,\n}\n",
             "rows.rt": "pub struct Row {\n    pub a: u64,\n}\nimpl Pair {\n" + method.format("shown") + "}\nimpl Row {\n" + method.format("hidden") + "}\n",
@@ -128,8 +159,8 @@ class Settle(Case):
 
     def test_another_contract(self):
         self.settled({"lib.rt": function("f")})
-        self.write("crates/a/src/lib.rt", function("f", contract="ensures { λ r. ⌜ r ≡ g x ⌝ }"))
-        self.assertEqual(self.settle("--check")[1][0], "settle: crates/uniqueness/proofs/SettledA.antt is not what the contracts say: run tools/settle and rt fmt")
+        self.write("crates/a/src/lib.rt", function("f", contract="ensures { result ≡ g x }"))
+        self.assertEqual(self.settle("--check")[1][0], "settle: crates/uniqueness/proofs/SettledA.antt is not what the contracts say: run tools/settle, and rt fmt in crates/uniqueness")
 
     def test_a_file_that_is_no_module(self):
         self.tree({"lib.rt": function("f")}, lib="pub mod Other\n")

@@ -1,12 +1,10 @@
 -- No second answer meets the contract of a public function of crate `bits`. Written by tools/settle from the contracts. Assumes nothing.
-use Prim.Native.Nat.{◌<◌, ℕ}
 use Rattle.bits.specs.Bytes.{u32_at, u64_at}
 use Rattle.laws.proofs.Choices.{settled}
 use Rattle.laws.specs.Floats.{abs_of, finite, max_of, min_of, unsigned_of}
-use lib.Ieee.{Float, binary64, lt, of_bits, to_bits}
-use mathlib.Core.Bool.{Bool, cond}
-use mathlib.Core.List.{List}
-use mathlib.Core.Path.{◌≡◌}
+use Rattle.std.specs.Float.{binary64}
+use Rattle.std.specs.Float.Ieee.{lt, of_bits, to_bits}
+use Rattle.std.specs.Prelude.{Bool, Float, List, cond, ℕ, ◌<◌, ◌≡◌}
 
 -- bits::pick
 pub pick : (c : Bool) (a : Float) (b : Float) {r₁ r₂ : Float} → (r₁ ≡ cond c a b) → (r₂ ≡ cond c a b) → r₁ ≡ r₂

@@ -1,11 +1,8 @@
 -- No second answer meets the contract of a public function of crate `calibrate`. Written by tools/settle from the contracts. Assumes nothing.
-use Prim.Native.Nat.{ℕ}
 use Rattle.calibrate.specs.Fit.{Fitted}
 use Rattle.records.specs.declared.FitAnswer.{FitAnswer}
 use Rattle.records.specs.declared.FitConfig.{FitConfig}
-use lib.Ieee.{Float}
-use mathlib.Core.List.{List}
-use mathlib.Core.Path.{◌≡◌}
+use Rattle.std.specs.Prelude.{Float, List, ℕ, ◌≡◌}
 
 -- calibrate::fit_slice
 pub fit_slice : (tau : Float) (config : FitConfig) (k : List Float) (w : List Float) (weight : List Float) (residuals : List Float) (capped : List ℕ) {r₁ r₂ : FitAnswer} {residuals-exit₁ residuals-exit₂ : List Float} {capped-exit₁ capped-exit₂ : List ℕ} → (Fitted tau config k w weight residuals capped r₁ residuals-exit₁ capped-exit₁) → (Fitted tau config k w weight residuals capped r₂ residuals-exit₂ capped-exit₂) → (r₁ ≡ r₂) × (residuals-exit₁ ≡ residuals-exit₂) × (capped-exit₁ ≡ capped-exit₂)

@@ -1,5 +1,4 @@
 -- No second answer meets the contract of a public function of crate `diagnostics`. Written by tools/settle from the contracts. Assumes nothing.
-use Prim.Native.Nat.{ℕ}
 use Rattle.diagnostics.specs.Diagnostics.{default_config, diagnose_of, report_clean}
 use Rattle.diagnostics.specs.Tally.{is_clean, no_check, recorded_of}
 use Rattle.diagnostics.specs.Walk.{butterfly_of, seen_on}
@@ -11,12 +10,9 @@ use Rattle.diagnostics.specs.declared.tally.Check.{Check}
 use Rattle.diagnostics.specs.declared.tally.DiagnosticPoint.{DiagnosticPoint}
 use Rattle.laws.proofs.Choices.{settled}
 use Rattle.slice.specs.declared.SviSlice.{SviSlice}
+use Rattle.std.specs.Prelude.{Bool, Float, List, ℕ, ◌≡◌}
 use Rattle.surface.specs.declared.types.Run.{Run}
 use Rattle.surface.specs.declared.types.ShortExpiryPolicy.{ShortExpiryPolicy}
-use lib.Ieee.{Float}
-use mathlib.Core.Bool.{Bool}
-use mathlib.Core.List.{List}
-use mathlib.Core.Path.{◌≡◌}
 
 -- diagnostics::butterfly_g
 pub butterfly_g : (k : Float) (w : Float) (w_k : Float) (w_kk : Float) {r₁ r₂ : Float} → (r₁ ≡ butterfly_of k w w_k w_kk) → (r₂ ≡ butterfly_of k w w_k w_kk) → r₁ ≡ r₂

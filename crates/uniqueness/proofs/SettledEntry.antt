@@ -1,12 +1,9 @@
 -- No second answer meets the contract of a public function of crate `entry`. Written by tools/settle from the contracts. Assumes nothing.
-use Prim.Native.Nat.{ℕ}
 use Rattle.entry.specs.Entry.{checks_number, range_of}
 use Rattle.laws.proofs.Choices.{settled}
 use Rattle.records.specs.declared.FitConfig.{FitConfig}
 use Rattle.slice.specs.declared.KRange.{KRange}
-use lib.Ieee.{Float}
-use mathlib.Core.List.{List}
-use mathlib.Core.Path.{◌≡◌}
+use Rattle.std.specs.Prelude.{Float, List, ℕ, ◌≡◌}
 
 -- entry::range_of
 pub range_of_lem : (k : List Float) {r₁ r₂ : KRange} → (r₁ ≡ range_of k) → (r₂ ≡ range_of k) → r₁ ≡ r₂

@@ -2,8 +2,7 @@
 use Rattle.exponent.specs.Exp.{exp_of}
 use Rattle.exponent.specs.Ln.{ln_of}
 use Rattle.laws.proofs.Choices.{settled}
-use lib.Ieee.{Float}
-use mathlib.Core.Path.{◌≡◌}
+use Rattle.std.specs.Prelude.{Float, ◌≡◌}
 
 -- exponent::exp
 pub exp : (x : Float) {r₁ r₂ : Float} → (r₁ ≡ exp_of x) → (r₂ ≡ exp_of x) → r₁ ≡ r₂

@@ -3,9 +3,7 @@ use Rattle.faces.specs.Faces.{face_marks}
 use Rattle.faces.specs.Next.{next_of}
 use Rattle.faces.specs.declared.Face.{Face}
 use Rattle.laws.proofs.Choices.{settled}
-use mathlib.Core.Bool.{Bool}
-use mathlib.Core.List.{List}
-use mathlib.Core.Path.{◌≡◌}
+use Rattle.std.specs.Prelude.{Bool, List, ◌≡◌}
 
 -- faces::next
 pub next : (f : Face) {r₁ r₂ : Face} → (r₁ ≡ next_of 7 f) → (r₂ ≡ next_of 7 f) → r₁ ≡ r₂

@@ -1,5 +1,4 @@
 -- No second answer meets the contract of a public function of crate `house`. Written by tools/settle from the contracts. Assumes nothing.
-use Prim.Native.Nat.{ℕ}
 use Rattle.house.specs.Check.{k_of, w_of, weight_of}
 use Rattle.house.specs.File.{config_of, house_of, records_of, tau_of}
 use Rattle.house.specs.Taken.{intake_number, taken_of}
@@ -7,10 +6,7 @@ use Rattle.house.specs.declared.House.{House}
 use Rattle.laws.proofs.Choices.{settled}
 use Rattle.laws.specs.Room.{at_front}
 use Rattle.records.specs.declared.FitConfig.{FitConfig}
-use lib.Ieee.{Float}
-use lib.ListN.{length}
-use mathlib.Core.List.{List, map}
-use mathlib.Core.Path.{◌≡◌}
+use Rattle.std.specs.Prelude.{Float, List, length, map, ℕ, ◌≡◌}
 
 -- house::house_of
 pub house_of_lem : (s : List ℕ) {r₁ r₂ : House} → (r₁ ≡ house_of s) → (r₂ ≡ house_of s) → r₁ ≡ r₂

@@ -1,15 +1,11 @@
 -- No second answer meets the contract of a public function of crate `judge`. Written by tools/settle from the contracts. Assumes nothing.
-use Prim.Native.Nat.{ℕ}
 use Rattle.judge.specs.Judge.{highest_of, matched_sums, params_hold, residual_at, rmse_holds, rmse_of}
 use Rattle.judge.specs.declared.Residual.{Residual}
 use Rattle.judge.specs.declared.Sums.{Sums}
 use Rattle.laws.proofs.Choices.{settled}
 use Rattle.records.specs.declared.FitConfig.{FitConfig}
 use Rattle.slice.specs.declared.SviSlice.{SviSlice}
-use lib.Ieee.{Float}
-use mathlib.Core.Bool.{Bool}
-use mathlib.Core.List.{List}
-use mathlib.Core.Path.{◌≡◌}
+use Rattle.std.specs.Prelude.{Bool, Float, List, ℕ, ◌≡◌}
 
 -- judge::highest
 pub highest : (w : List Float) (a_min : Float) {r₁ r₂ : Float} → (r₁ ≡ highest_of w a_min) → (r₂ ≡ highest_of w a_min) → r₁ ≡ r₂

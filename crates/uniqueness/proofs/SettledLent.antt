@@ -1,20 +1,17 @@
 -- No second answer meets the contract of a public function of crate `lent`. Written by tools/settle from the contracts. Assumes nothing.
-use Prim.Native.Nat.{ℕ}
 use Rattle.diagnostics.specs.Diagnostics.{diagnose_of}
 use Rattle.diagnostics.specs.declared.report.Diagnosed.{Diagnosed}
 use Rattle.diagnostics.specs.declared.report.DiagnosticsConfig.{DiagnosticsConfig}
 use Rattle.laws.proofs.Choices.{settled}
 use Rattle.point.specs.declared.Total.{Total}
 use Rattle.slice.specs.declared.SviSlice.{SviSlice}
+use Rattle.std.specs.Prelude.{Float, List, ℕ, ◌≡◌}
 use Rattle.surface.specs.Runs.{check_run, run_of}
 use Rattle.surface.specs.Surface.{bracket_run, covers_run, region_run, total_run}
 use Rattle.surface.specs.declared.types.Bracket.{Bracket}
 use Rattle.surface.specs.declared.types.Covered.{Covered}
 use Rattle.surface.specs.declared.types.Region.{Region}
 use Rattle.surface.specs.declared.types.ShortExpiryPolicy.{ShortExpiryPolicy}
-use lib.Ieee.{Float}
-use mathlib.Core.List.{List}
-use mathlib.Core.Path.{◌≡◌}
 
 -- lent::check_surface
 pub check_surface : (slices : List SviSlice) {r₁ r₂ : ℕ} → (r₁ ≡ check_run (run_of slices)) → (r₂ ≡ check_run (run_of slices)) → r₁ ≡ r₂

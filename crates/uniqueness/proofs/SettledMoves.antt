@@ -1,5 +1,4 @@
 -- No second answer meets the contract of a public function of crate `moves`. Written by tools/settle from the contracts. Assumes nothing.
-use Prim.Native.Nat.{◌-◌, ℕ}
 use Rattle.laws.proofs.Choices.{settled}
 use Rattle.moves.specs.Axis.{linspace_at}
 use Rattle.moves.specs.Moves.{moved_of}
@@ -7,8 +6,7 @@ use Rattle.moves.specs.declared.PassBest.{PassBest}
 use Rattle.moves.specs.declared.Plan.{Plan}
 use Rattle.moves.specs.declared.Search.{Search}
 use Rattle.records.specs.declared.Counts.{Counts}
-use lib.Ieee.{Float}
-use mathlib.Core.Path.{◌≡◌}
+use Rattle.std.specs.Prelude.{Float, ℕ, ◌≡◌}
 
 -- moves::moved
 pub moved : (p : Plan) (s : Search) (n : Counts) (b : PassBest) {r₁ r₂ : Search} → (r₁ ≡ moved_of p s n b) → (r₂ ≡ moved_of p s n b) → r₁ ≡ r₂

@@ -1,5 +1,4 @@
 -- No second answer meets the contract of a public function of crate `outcome`. Written by tools/settle from the contracts. Assumes nothing.
-use Prim.Native.Nat.{ℕ}
 use Rattle.house.specs.File.{records_of}
 use Rattle.house.specs.Repeats.{kept}
 use Rattle.house.specs.Taken.{kept_of}
@@ -7,10 +6,7 @@ use Rattle.laws.specs.Room.{written}
 use Rattle.outcome.specs.Outcome.{bytes_outcome, capped_for, file_outcome, residuals_for, settings_of}
 use Rattle.outcome.specs.declared.Outcome.{Outcome}
 use Rattle.records.specs.declared.FitConfig.{FitConfig}
-use lib.Ieee.{Float}
-use lib.ListN.{length}
-use mathlib.Core.List.{List}
-use mathlib.Core.Path.{◌≡◌}
+use Rattle.std.specs.Prelude.{Float, List, length, ℕ, ◌≡◌}
 
 -- outcome::of_file
 pub of_file : (file : List ℕ) (residuals : List Float) (capped : List ℕ) {r₁ r₂ : Outcome} {residuals-exit₁ residuals-exit₂ : List Float} {capped-exit₁ capped-exit₂ : List ℕ} → ((r₁ ≡ file_outcome file (length residuals) (length capped)) × (residuals-exit₁ ≡ written r₁.fit.number (residuals_for r₁.fit.slice (kept_of file)) residuals) × (capped-exit₁ ≡ written r₁.fit.number (capped_for (settings_of file) (kept_of file)) capped)) → ((r₂ ≡ file_outcome file (length residuals) (length capped)) × (residuals-exit₂ ≡ written r₂.fit.number (residuals_for r₂.fit.slice (kept_of file)) residuals) × (capped-exit₂ ≡ written r₂.fit.number (capped_for (settings_of file) (kept_of file)) capped)) → (r₁ ≡ r₂) × (residuals-exit₁ ≡ residuals-exit₂) × (capped-exit₁ ≡ capped-exit₂)

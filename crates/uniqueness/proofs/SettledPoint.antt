@@ -1,10 +1,8 @@
 -- No second answer meets the contract of a public function of crate `point`. Written by tools/settle from the contracts. Assumes nothing.
-use Prim.Native.Nat.{ℕ}
 use Rattle.laws.proofs.Choices.{settled}
 use Rattle.point.specs.Point.{point_number, total_of}
 use Rattle.point.specs.declared.Total.{Total}
-use lib.Ieee.{Float}
-use mathlib.Core.Path.{◌≡◌}
+use Rattle.std.specs.Prelude.{Float, ℕ, ◌≡◌}
 
 -- point::check_point
 pub check_point : (k : Float) (tau : Float) {r₁ r₂ : ℕ} → (r₁ ≡ point_number k tau) → (r₂ ≡ point_number k tau) → r₁ ≡ r₂

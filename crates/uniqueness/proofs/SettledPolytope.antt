@@ -1,11 +1,7 @@
 -- No second answer meets the contract of a public function of crate `polytope`. Written by tools/settle from the contracts. Assumes nothing.
-use Prim.Native.Nat.{ℕ}
 use Rattle.laws.proofs.Choices.{settled}
 use Rattle.polytope.specs.Polytope.{bounds_of, dot_of, feasible_of, rows_of, spread_of}
-use lib.Ieee.{Float}
-use mathlib.Core.Bool.{Bool}
-use mathlib.Core.List.{List}
-use mathlib.Core.Path.{◌≡◌}
+use Rattle.std.specs.Prelude.{Bool, Float, List, ℕ, ◌≡◌}
 
 -- polytope::rows
 pub rows : {r₁ r₂ : List Float} → (r₁ ≡ rows_of) → (r₂ ≡ rows_of) → r₁ ≡ r₂

@@ -1,5 +1,4 @@
 -- No second answer meets the contract of a public function of crate `port`. Written by tools/settle from the contracts. Assumes nothing.
-use Prim.Native.Nat.{◌≤◌, ℕ}
 use Rattle.cell.specs.Cell.{inner_of}
 use Rattle.diagnostics.specs.Diagnostics.{report_clean}
 use Rattle.diagnostics.specs.Tally.{is_clean, point_at, recorded_of}
@@ -21,14 +20,10 @@ use Rattle.run.specs.Answer.{answer_of}
 use Rattle.slice.specs.Slice.{eval_of, holds_k, lee_slope_of, made_of, minimum_of, ranged_of}
 use Rattle.slice.specs.declared.SviSlice.{SviSlice}
 use Rattle.solver.specs.Solve.{solve_of}
+use Rattle.std.specs.Prelude.{Bool, Float, List, [], length, ℕ, ◌∷◌, ◌≡◌, ◌≤◌}
 use Rattle.surface.specs.Lookup.{default_policy}
 use Rattle.surface.specs.Runs.{check_run, run_of}
 use Rattle.text.specs.Place.{longest, placed}
-use lib.Ieee.{Float}
-use lib.ListN.{length}
-use mathlib.Core.Bool.{Bool}
-use mathlib.Core.List.{List, [], ◌∷◌}
-use mathlib.Core.Path.{◌≡◌}
 
 -- port::port_abi
 pub port_abi : {r₁ r₂ : ℕ} → (r₁ ≡ abi_number) → (r₂ ≡ abi_number) → r₁ ≡ r₂

@@ -1,5 +1,4 @@
 -- No second answer meets the contract of a public function of crate `records`. Written by tools/settle from the contracts. Assumes nothing.
-use Prim.Native.Nat.{ℕ}
 use Rattle.laws.proofs.Choices.{settled}
 use Rattle.laws.specs.Floats.{positive}
 use Rattle.records.specs.Answer.{no_counts, refused_with}
@@ -9,9 +8,7 @@ use Rattle.records.specs.declared.Counts.{Counts}
 use Rattle.records.specs.declared.FitAnswer.{FitAnswer}
 use Rattle.records.specs.declared.FitConfig.{FitConfig}
 use Rattle.records.specs.declared.Observed.{Observed}
-use lib.Ieee.{Float}
-use mathlib.Core.Bool.{Bool}
-use mathlib.Core.Path.{◌≡◌}
+use Rattle.std.specs.Prelude.{Bool, Float, ℕ, ◌≡◌}
 
 -- records::is_positive
 pub is_positive : (x : Float) {r₁ r₂ : Bool} → (r₁ ≡ positive x) → (r₂ ≡ positive x) → r₁ ≡ r₂

@@ -1,11 +1,8 @@
 -- No second answer meets the contract of a public function of crate `roots`. Written by tools/settle from the contracts. Assumes nothing.
-use Prim.Native.Nat.{ℕ}
 use Rattle.laws.proofs.Choices.{settled}
 use Rattle.roots.specs.Hypot.{hypot_of, with_one_of}
 use Rattle.roots.specs.Root.{root_of}
-use lib.Ieee.{Float}
-use mathlib.Core.List.{List}
-use mathlib.Core.Path.{◌≡◌}
+use Rattle.std.specs.Prelude.{Float, List, ℕ, ◌≡◌}
 
 -- roots::with_one
 pub with_one : (ys : List Float) (n : ℕ) (hs : List Float) {hs-exit₁ hs-exit₂ : List Float} → (hs-exit₁ ≡ with_one_of ys n hs) → (hs-exit₂ ≡ with_one_of ys n hs) → hs-exit₁ ≡ hs-exit₂

@@ -1,5 +1,4 @@
 -- No second answer meets the contract of a public function of crate `rows`. Written by tools/settle from the contracts. Assumes nothing.
-use Prim.Native.Nat.{ℕ}
 use Rattle.cell.specs.declared.Limits.{Limits}
 use Rattle.diagnostics.specs.declared.report.SurfaceDiagnostics.{SurfaceDiagnostics}
 use Rattle.diagnostics.specs.declared.tally.Check.{Check}
@@ -21,11 +20,9 @@ use Rattle.slice.specs.declared.Level.{Level}
 use Rattle.slice.specs.declared.Made.{Made}
 use Rattle.slice.specs.declared.Ranged.{Ranged}
 use Rattle.slice.specs.declared.SviSlice.{SviSlice}
+use Rattle.std.specs.Prelude.{Float, List, [], ℕ, ◌∷◌, ◌≡◌}
 use Rattle.surface.specs.declared.types.Run.{Run}
 use Rattle.surface.specs.declared.types.ShortExpiryPolicy.{ShortExpiryPolicy}
-use lib.Ieee.{Float}
-use mathlib.Core.List.{List, [], ◌∷◌}
-use mathlib.Core.Path.{◌≡◌}
 
 -- rows::policy_number
 pub policy_number_lem : (policy : ShortExpiryPolicy) {r₁ r₂ : ℕ} → (r₁ ≡ policy_number policy) → (r₂ ≡ policy_number policy) → r₁ ≡ r₂
@@ -44,8 +41,8 @@ pub report_at_lem : (counts : List ℕ) (worst : List Float) {r₁ r₂ : Surfac
 report_at_lem counts worst h₁ h₂ = settled h₁ h₂
 
 -- rows::bracket_of
-pub bracket_of_lem : (run : Run) (policy : ℕ) (k : Float) (tau : Float) (places : List ℕ) (x : List Float) {r₁ r₂ : ℕ} {places-exit₁ places-exit₂ : List ℕ} {x-exit₁ x-exit₂ : List Float} → ((r₁ ≡ (bracket_for run policy k tau).number) × (places-exit₁ ≡ places_row (bracket_for run policy k tau)) × (x-exit₁ ≡ (bracket_for run policy k tau).x ∷ [])) → ((r₂ ≡ (bracket_for run policy k tau).number) × (places-exit₂ ≡ places_row (bracket_for run policy k tau)) × (x-exit₂ ≡ (bracket_for run policy k tau).x ∷ [])) → (r₁ ≡ r₂) × (places-exit₁ ≡ places-exit₂) × (x-exit₁ ≡ x-exit₂)
-bracket_of_lem run policy k tau places x {r₁} {r₂} {places-exit₁} {places-exit₂} {x-exit₁} {x-exit₂} h₁ h₂ = (cc, cc, cc)
+pub bracket_of : (run : Run) (policy : ℕ) (k : Float) (tau : Float) (places : List ℕ) (x : List Float) {r₁ r₂ : ℕ} {places-exit₁ places-exit₂ : List ℕ} {x-exit₁ x-exit₂ : List Float} → ((r₁ ≡ (bracket_for run policy k tau).number) × (places-exit₁ ≡ places_row (bracket_for run policy k tau)) × (x-exit₁ ≡ (bracket_for run policy k tau).x ∷ [])) → ((r₂ ≡ (bracket_for run policy k tau).number) × (places-exit₂ ≡ places_row (bracket_for run policy k tau)) × (x-exit₂ ≡ (bracket_for run policy k tau).x ∷ [])) → (r₁ ≡ r₂) × (places-exit₁ ≡ places-exit₂) × (x-exit₁ ≡ x-exit₂)
+bracket_of run policy k tau places x {r₁} {r₂} {places-exit₁} {places-exit₂} {x-exit₁} {x-exit₂} h₁ h₂ = (cc, cc, cc)
 
 -- rows::region_of
 pub region_of : (run : Run) (policy : ℕ) (k : Float) (tau : Float) (calibrated : List ℕ) {r₁ r₂ : ℕ} {calibrated-exit₁ calibrated-exit₂ : List ℕ} → ((r₁ ≡ (region_for run policy k tau).number) × (calibrated-exit₁ ≡ flag (region_for run policy k tau).calibrated ∷ [])) → ((r₂ ≡ (region_for run policy k tau).number) × (calibrated-exit₂ ≡ flag (region_for run policy k tau).calibrated ∷ [])) → (r₁ ≡ r₂) × (calibrated-exit₁ ≡ calibrated-exit₂)
@@ -88,17 +85,17 @@ pub read_slice_lem : (row : List Float) {r₁ r₂ : SviSlice} → (r₁ ≡ rea
 read_slice_lem row h₁ h₂ = settled h₁ h₂
 
 -- rows::range_answer
-pub range_answer_lem : (r : Ranged) {a₁ a₂ : RangeAnswer} → (a₁ ≡ range_answer r) → (a₂ ≡ range_answer r) → a₁ ≡ a₂
+pub range_answer_lem : (r : Ranged) {r₁ r₂ : RangeAnswer} → (r₁ ≡ range_answer r) → (r₂ ≡ range_answer r) → r₁ ≡ r₂
 range_answer_lem r h₁ h₂ = settled h₁ h₂
 
 -- rows::slice_answer
-pub slice_answer_lem : (m : Made) {a₁ a₂ : SliceAnswer} → (a₁ ≡ slice_answer m) → (a₂ ≡ slice_answer m) → a₁ ≡ a₂
+pub slice_answer_lem : (m : Made) {r₁ r₂ : SliceAnswer} → (r₁ ≡ slice_answer m) → (r₂ ≡ slice_answer m) → r₁ ≡ r₂
 slice_answer_lem m h₁ h₂ = settled h₁ h₂
 
 -- rows::level_answer
-pub level_answer_lem : (l : Level) {a₁ a₂ : LevelAnswer} → (a₁ ≡ level_answer l) → (a₂ ≡ level_answer l) → a₁ ≡ a₂
+pub level_answer_lem : (l : Level) {r₁ r₂ : LevelAnswer} → (r₁ ≡ level_answer l) → (r₂ ≡ level_answer l) → r₁ ≡ r₂
 level_answer_lem l h₁ h₂ = settled h₁ h₂
 
 -- rows::values_answer
-pub values_answer_lem : (e : Evaluated) {a₁ a₂ : ValuesAnswer} → (a₁ ≡ values_answer e) → (a₂ ≡ values_answer e) → a₁ ≡ a₂
+pub values_answer_lem : (e : Evaluated) {r₁ r₂ : ValuesAnswer} → (r₁ ≡ values_answer e) → (r₂ ≡ values_answer e) → r₁ ≡ r₂
 values_answer_lem e h₁ h₂ = settled h₁ h₂

@@ -4,9 +4,7 @@ use Rattle.laws.proofs.Choices.{settled}
 use Rattle.moves.specs.declared.Plan.{Plan}
 use Rattle.moves.specs.declared.Search.{Search}
 use Rattle.search.specs.Run.{planned_search}
-use lib.Ieee.{Float}
-use mathlib.Core.List.{List}
-use mathlib.Core.Path.{◌≡◌}
+use Rattle.std.specs.Prelude.{Float, List, ◌≡◌}
 
 -- search::run
 pub run : (ks : List Float) (ws : List Float) (weights : List Float) (l : Limits) (p : Plan) {r₁ r₂ : Search} → (r₁ ≡ planned_search ks ws weights l p) → (r₂ ≡ planned_search ks ws weights l p) → r₁ ≡ r₂

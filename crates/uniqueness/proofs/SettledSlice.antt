@@ -1,5 +1,4 @@
 -- No second answer meets the contract of a public function of crate `slice`. Written by tools/settle from the contracts. Assumes nothing.
-use Prim.Native.Nat.{ℕ}
 use Rattle.laws.proofs.Choices.{settled}
 use Rattle.slice.specs.Slice.{eval_of, eval_raw, holds_k, lee_of, lee_slope_of, lowest_of, made_of, minimum_of, number_of, ranged_of}
 use Rattle.slice.specs.declared.Evaluated.{Evaluated}
@@ -8,9 +7,7 @@ use Rattle.slice.specs.declared.Level.{Level}
 use Rattle.slice.specs.declared.Made.{Made}
 use Rattle.slice.specs.declared.Ranged.{Ranged}
 use Rattle.slice.specs.declared.SviSlice.{SviSlice}
-use lib.Ieee.{Float}
-use mathlib.Core.Bool.{Bool}
-use mathlib.Core.Path.{◌≡◌}
+use Rattle.std.specs.Prelude.{Bool, Float, ℕ, ◌≡◌}
 
 -- slice::KRange::new
 pub KRange-new : (lo : Float) (hi : Float) {r₁ r₂ : Ranged} → (r₁ ≡ ranged_of lo hi) → (r₂ ≡ ranged_of lo hi) → r₁ ≡ r₂

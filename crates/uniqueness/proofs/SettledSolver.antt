@@ -1,11 +1,8 @@
 -- No second answer meets the contract of a public function of crate `solver`. Written by tools/settle from the contracts. Assumes nothing.
-use Prim.Native.Nat.{ℕ}
 use Rattle.laws.proofs.Choices.{settled}
 use Rattle.solver.specs.Solve.{solve_of, under_of}
 use Rattle.solver.specs.declared.Solved.{Solved}
-use lib.Ieee.{Float}
-use mathlib.Core.List.{List}
-use mathlib.Core.Path.{◌≡◌}
+use Rattle.std.specs.Prelude.{Float, List, ℕ, ◌≡◌}
 
 -- solver::solve_under
 pub solve_under : (m : List Float) (rhs : List Float) (n : ℕ) (limit : Float) {r₁ r₂ : Solved} → (r₁ ≡ under_of n m rhs limit) → (r₂ ≡ under_of n m rhs limit) → r₁ ≡ r₂

@@ -1,8 +1,8 @@
 -- No second answer meets the contract of a public function of crate `surface`. Written by tools/settle from the contracts. Assumes nothing.
-use Prim.Native.Nat.{ℕ}
 use Rattle.laws.proofs.Choices.{settled}
 use Rattle.point.specs.declared.Total.{Total}
 use Rattle.slice.specs.declared.SviSlice.{SviSlice}
+use Rattle.std.specs.Prelude.{Bool, Float, List, ℕ, ◌≡◌}
 use Rattle.surface.specs.Axis.{grid_number, held_of, rising_of}
 use Rattle.surface.specs.Lookup.{default_policy, tolerances_of}
 use Rattle.surface.specs.Runs.{check_run, run_of, taus_of}
@@ -12,10 +12,6 @@ use Rattle.surface.specs.declared.types.Covered.{Covered}
 use Rattle.surface.specs.declared.types.Region.{Region}
 use Rattle.surface.specs.declared.types.Run.{Run}
 use Rattle.surface.specs.declared.types.ShortExpiryPolicy.{ShortExpiryPolicy}
-use lib.Ieee.{Float}
-use mathlib.Core.Bool.{Bool}
-use mathlib.Core.List.{List}
-use mathlib.Core.Path.{◌≡◌}
 
 -- surface::variance_at
 pub variance_at_lem : (recs : List SviSlice) (taus : List Float) (tols : List Float) (n : ℕ) (policy : ShortExpiryPolicy) (k : Float) (tau : Float) {r₁ r₂ : Total} → (r₁ ≡ variance_at recs taus tols n policy k tau) → (r₂ ≡ variance_at recs taus tols n policy k tau) → r₁ ≡ r₂

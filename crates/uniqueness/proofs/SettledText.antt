@@ -1,12 +1,8 @@
 -- No second answer meets the contract of a public function of crate `text`. Written by tools/settle from the contracts. Assumes nothing.
-use Prim.Native.Nat.{◌≤◌, ℕ}
 use Rattle.records.specs.declared.FitAnswer.{FitAnswer}
+use Rattle.std.specs.Prelude.{Float, List, length, ℕ, ◌≡◌, ◌≤◌}
 use Rattle.text.specs.Answers.{accepted_text, malformed_text, refused_text}
 use Rattle.text.specs.Place.{longest, placed}
-use lib.Ieee.{Float}
-use lib.ListN.{length}
-use mathlib.Core.List.{List}
-use mathlib.Core.Path.{◌≡◌}
 
 -- text::malformed
 pub malformed : (out : List ℕ) {r₁ r₂ : ℕ} {out-exit₁ out-exit₂ : List ℕ} → ((r₁ ≡ length malformed_text) × (out-exit₁ ≡ placed malformed_text out) × (r₁ ≤ 128)) → ((r₂ ≡ length malformed_text) × (out-exit₂ ≡ placed malformed_text out) × (r₂ ≤ 128)) → (r₁ ≡ r₂) × (out-exit₁ ≡ out-exit₂)
