@@ -8,11 +8,11 @@ from support import FIT, NO_SETTINGS, SIX, Case, answer_to, expiry, records
 
 RT = """#!/bin/sh
 # Stands for the prover: writes a program that counts what it reads, and prints an answer.
-echo "$@" >> calls
-[ "$*" = "check fit" ] || exit 2
-[ ! -e broken ] || { echo "rt: fit is not proved"; exit 1; }
-mkdir -p target/bin
-cp ../program target/bin/fit
+echo "$@" >> ../../../calls
+[ "$(basename "$PWD") $*" = "fit run" ] || exit 2
+[ ! -e ../../../broken ] || { echo "rt: fit is not proved"; exit 1; }
+mkdir -p out
+cp ../../../program out/fit
 """
 
 
@@ -43,7 +43,7 @@ class Fit(Case):
             return file.read()
 
     def calls(self):
-        return self.content("repository/calls").count(b"\n")
+        return self.content("calls").count(b"\n")
 
     def test_builds_once_then_only_runs(self):
         first = self.fit("day.house")
@@ -80,9 +80,9 @@ class Fit(Case):
         self.assertEqual(message("day.house", "day.house"), "fit: one file at a time (./fit --help)\n")
         self.assertEqual(message("--fast"), "fit: '--fast' is not known (./fit --help)\n")
         self.assertIn("there is no 'rt' on the PATH", message("day.house", rt=False))
-        self.put("repository/broken", "")
+        self.put("broken", "")
         self.assertTrue(message("day.house").endswith("fit: the program could not be built; the last words of target/fit.log: rt: fit is not proved\n"))
-        os.remove(f"{self.root}/broken")
+        os.remove(f"{self.folder}/broken")
         self.script("program", "#!/bin/sh\nexit 4\n")
         self.assertTrue(message("day.house").endswith("fit: the program stopped before its answer was complete\n"))
 
