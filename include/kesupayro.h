@@ -1,5 +1,5 @@
 /* Kesupayro for C and C++: fit the smile of one expiry, price off it, put expiries together to a surface and test that for arbitrage.
- * Link target/staticlib/libport.a, which `rt staticlib port` writes (x86-64 Linux):  cc -I include my.c target/staticlib/libport.a
+ * Link target/staticlib/libport.a, which `tools/library` writes (x86-64 Linux):  cc -I include my.c target/staticlib/libport.a
  *
  * Every call has one answer for every input, NaN and infinities too, and that answer is proved: docs/PROMISES.md. No call allocates,
  * blocks, or keeps a pointer; nothing is kept between calls, so threads need no lock. PORT_STACK bytes of stack are enough.

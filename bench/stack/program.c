@@ -1,6 +1,5 @@
-/* Measures the stack of a whole program for x86-64, into which it is loaded beforehand (LD_PRELOAD, or the loader's --preload): before the program begins it paints the
- * stack, and when the program ends it prints to standard error how many bytes below the program's arguments are no longer paint. It stands alone, without
- * headers, since an Arm machine has none for x86-64. Built and run by bench/run stack. */
+/* Measures the stack of a whole program, into which it is loaded beforehand (LD_PRELOAD): before the program begins it paints the stack, and when the program ends
+ * it prints to standard error how many bytes below the program's arguments are no longer paint. Built and run by bench/run stack. */
 enum { PAINTED = 1 << 20, PAINT = 0xa5, LEAST = 512 };
 
 int dprintf(int stream, const char *format, ...);

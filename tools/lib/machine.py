@@ -1,8 +1,8 @@
-"""What this machine runs. The program and the library are for x86-64; tools/library makes for an Arm machine what stands for them there."""
+"""What this machine runs. The program is for x86-64, and so is the library but for tools/arm, which compiles it for an Arm machine."""
 
 import os
 
 ROOT = os.path.dirname(os.path.dirname(os.path.dirname(os.path.realpath(__file__))))
 NATIVE = os.uname().machine == "x86_64"
-# The program fit, or what runs it here.
-PROGRAM = os.environ.get("KESUPAYRO_FIT") or os.path.join(ROOT, "target", "bin" if NATIVE else "arm", "fit")
+# The program fit.
+PROGRAM = os.environ.get("KESUPAYRO_FIT") or os.path.join(ROOT, "target", "bin", "fit")
