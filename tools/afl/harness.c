@@ -1,6 +1,7 @@
 /* The compiled program under AFL, many files in one process. fit_main is the program's main (see instrument), which reads and writes by the two functions
    below: reads come in pieces of changing length, so that a file that arrives slowly is tried too; what is written is collected and looked at.
    An answer that has none of the forms of the print rules ends in abort(), which AFL keeps as a crash. Without AFL: harness FILE.. answers each file. */
+#include <errno.h>
 #include <stdint.h>
 #include <stdio.h>
 #include <stdlib.h>
@@ -35,6 +36,9 @@ ssize_t fuzz_write(int to, const void *from, size_t n) {
     written += n;
     return (ssize_t)n;
 }
+
+/* What the kit links with a program. */
+int32_t rattle_errno(void) { return errno; }
 
 static const char *line(const char *p, const char *word, int values, int hex) {
     size_t n = strlen(word);

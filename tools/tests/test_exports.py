@@ -56,7 +56,7 @@ def declared():
 
 class Exports(Case):
     def exports(self):
-        found = [item for item in sources.Crate(ROOT, "port").functions() if item.exported]
+        found = [item for item in sources.Crate(ROOT, "port_c", static=True).functions() if item.exported]
         self.assertGreater(len(found), 20)
         return found
 
@@ -80,7 +80,7 @@ class Exports(Case):
         with open(os.path.join(ROOT, "docs", "ABI.md"), encoding="utf-8") as file:
             newest = re.findall(r"^\| (\d+) \|", file.read(), flags=re.M)[-1]
         with open(os.path.join(ROOT, "crates", "port", "specs", "Abi.antt"), encoding="utf-8") as file:
-            proved = re.search(r"^abiNumber = (\d+)$", file.read(), flags=re.M).group(1)
+            proved = re.search(r"^abi_number = (\d+)$", file.read(), flags=re.M).group(1)
         self.assertEqual([header, newest], [proved, proved])
 
     def test_what_is_more_than_a_number_or_a_pointer(self):

@@ -24,6 +24,7 @@ DEFAULTS = {
     "bindings/rust/src/surface.rs": 1,
     "bindings/rust/tests/surface.rs": 4,
     "crates/port/src/surfaces.rt": 2,
+    "crates/port_c/src/surfaces.rt": 2,
     "include/kesupayro.h": 1,
     "oracle/src/bin/compare_surface.rs": 2,
 }
