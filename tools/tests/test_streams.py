@@ -1,6 +1,6 @@
 """The program's two streams, as an attacker or a bad day would have them: slow, cut, closed, failing, endless, full.
 
-The program has no exit status to give (the language has none): it ends with 0 whenever nothing kills it, so only its text can say what became of a file.
+The program gives no exit status: it ends with 0 whenever nothing kills it, so only its text can say what became of a file.
 What is tested: it always ends; a file that did not arrive whole is refused with 43; the answer is whole or can be seen to be cut; ./fit turns each of these
 into an exit status."""
 
@@ -174,8 +174,8 @@ class Streams(Case):
             self.assertEqual(self.answer(stdin=file, stdout=reading), (None, 0))
 
     def test_a_reader_that_left(self):
-        """The system ends the program by SIGPIPE; where that is ignored it ends by itself."""
-        for ignored, status in ((False, -signal.SIGPIPE), (True, 0)):
+        """The program ends by itself: as every program of Rattle's it ignores SIGPIPE, whatever was set before."""
+        for ignored, status in ((False, 0), (True, 0)):
             its, ours = os.pipe()
             os.close(its)
             handler = signal.SIG_IGN if ignored else signal.SIG_DFL
