@@ -145,9 +145,9 @@ fn best(
     slack: f64,
     first: usize,
 ) -> Walked
-    requires ws_len_bound { (length ws.now ≤ 256) × (length weights.now ≡ length ws.now) × Scaled b.now scale × (g.now ≡ rows_of) }
-    requires face_at_value { (try_of (objective_at ys.now hs.now ws.now weights.now) (problem_in b.now g.now h.now pivot slack) (face_at 3 7 0)).some ≡ false }
-    requires first_value { first ≡ updates_of (problem_in b.now g.now h.now pivot slack) 1 }
+    requires sized { (length ws.now ≤ 256) × (length weights.now ≡ length ws.now) × Scaled b.now scale × (g.now ≡ rows_of) }
+    requires empty_fails { (try_of (objective_at ys.now hs.now ws.now weights.now) (problem_in b.now g.now h.now pivot slack) (face_at 3 7 0)).some ≡ false }
+    requires empty_counted { first ≡ updates_of (problem_in b.now g.now h.now pivot slack) 1 }
     ensures { (result.best ≡ best_of (objective_at ys.now hs.now ws.now weights.now) (problem_in b.now g.now h.now pivot slack) 64) × (result.updates ≡ updates_of (problem_in b.now g.now h.now pivot slack) 64) }
 {
     let mut best = trial::no_try();

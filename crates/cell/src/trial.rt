@@ -100,8 +100,8 @@ pub(crate) fn candidate(
     f: Face,
 ) -> Point
     requires { Good 3 7 f × (g.now ≡ rows_of) }
-    ensures updates_value { result.updates ≡ (system_answer b.now g.now h.now limit f).updates }
-    ensures f_value { (o : List Float → Float) → tried_of o (problem_in b.now g.now h.now limit slack) f (system_answer b.now g.now h.now limit f) ≡ unless result.ok no_try (valued_of f result.x (o result.x)) }
+    ensures work { result.updates ≡ (system_answer b.now g.now h.now limit f).updates }
+    ensures tried { (o : List Float → Float) → tried_of o (problem_in b.now g.now h.now limit slack) f (system_answer b.now g.now h.now limit f) ≡ unless result.ok no_try (valued_of f result.x (o result.x)) }
 {
     let s = solution(b, g, h, limit, f);
     if s.ok {

@@ -241,8 +241,8 @@ fn repeated(s: &[u8], i: usize) -> bool
 
 // Puts what is kept of n records into three columns, and answers how many that is. Room beyond is untouched.
 fn keep(s: &[u8], n: usize, k: &mut [f64], w: &mut [f64], weight: &mut [f64]) -> usize
-    requires n_in_bounds { (n ≤ length k.old) × (n ≤ length w.old) × (n ≤ length weight.old) }
-    requires n_in_bounds_2 { 32 * n ≤ length s.now }
+    requires columns_long { (n ≤ length k.old) × (n ≤ length w.old) × (n ≤ length weight.old) }
+    requires records_there { 32 * n ≤ length s.now }
     ensures value { result ≡ length (kept (quotes s.now 0 n)) }
     ensures k_after { k.new ≡ at_front (map k_of (kept (quotes s.now 0 n))) k.old }
     ensures w_after { w.new ≡ at_front (map w_of (kept (quotes s.now 0 n))) w.old }

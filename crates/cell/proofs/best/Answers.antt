@@ -30,21 +30,21 @@ returns-then-not-positive c = let a = c.args in
     let p = problem_in a.b.now a.g.now a.h.now a.pivot a.slack in
     let no = sym c.positive.ensures ∙ not-true _ c.if-not-positive.true-raw in
     let scale : (t : ℕ) → 0 < t → t < 64 → scale_of (3 + (face_at 3 7 t).size) (kkt_of (block_of a.b.now) a.g.now 3 (face_at 3 7 t)) ≡ a.scale =
-    λ t l m. scale_same a.b.now a.g.now (face_at 3 7 t) a.scale t refl c.requires.ws_len_bound.3 c.requires.ws_len_bound.2 l m in
+    λ t l m. scale_same a.b.now a.g.now (face_at 3 7 t) a.scale t refl c.requires.sized.3 c.requires.sized.2 l m in
     let none : (t : ℕ) → 0 < t → t < 64 → (try_of o p (face_at 3 7 t)).some ≡ false =
     λ t l m. ap (λ (t : Tried). t.some) (try_none a.b.now a.g.now a.h.now a.pivot a.scale a.slack (face_at 3 7 t) (fit_order.good t m).size (scale t l m) o no)
     in
     let rest = work_still p 1 63 (λ t l m. work_none a.b.now a.g.now a.h.now a.pivot a.scale a.slack (face_at 3 7 t) (fit_order.good t m).size (scale t l m) no) in
-    (c.no_try-best.ensures ∙ best_none o p 64 (zero_or_more (λ (t : ℕ). t < 64 → (try_of o p (face_at 3 7 t)).some ≡ false) (λ m. c.requires.face_at_value) none), c.requires.first_value ∙ sym rest)
+    (c.no_try-best.ensures ∙ best_none o p 64 (zero_or_more (λ (t : ℕ). t < 64 → (try_of o p (face_at 3 7 t)).some ≡ false) (λ m. c.requires.empty_fails) none), c.requires.empty_counted ∙ sym rest)
 
 pub loop-t-init : goal.loop-t-init
 unfolding best_of
-loop-t-init c = (one_more 0, omega arith, sym fit_order.first, again _ 0 64 (omega arith) (c.no_try-best.ensures ∙ passed_over _ _ c.requires.face_at_value) refl, add-zero _ ∙ c.requires.first_value)
+loop-t-init c = (one_more 0, omega arith, sym fit_order.first, again _ 0 64 (omega arith) (c.no_try-best.ensures ∙ passed_over _ _ c.requires.empty_fails) refl, add-zero _ ∙ c.requires.empty_counted)
 
 pub candidate-e-requires : goal.candidate-e-requires
 candidate-e-requires c = let l = c.loop-t in
     let e = stepped fit_order l.t l.f c.next-f.result l.invariant.0 c.loop-t-test.true l.invariant.2 c.next-f.ensures in
-    (good_at fit_order l.t c.next-f.result c.loop-t-test.true e, c.requires.ws_len_bound.3)
+    (good_at fit_order l.t c.next-f.result c.loop-t-test.true e, c.requires.sized.3)
 
 -- what was counted so far is at most 70 a face
 pub overflow_add-updates : goal.overflow_add-updates
@@ -54,7 +54,7 @@ overflow_add-updates c = let l = c.loop-t in
     let size = (good_at fit_order l.t c.next-f.result c.loop-t-test.true e).size in
     let one = one_system a.b.now a.g.now a.h.now a.pivot a.slack (a.pivot *f a.scale) c.next-f.result size in
     let all = some_faces a.b.now a.g.now a.h.now a.pivot a.slack l.t l.invariant.1 in
-    omega (arith, one, all, l.invariant.1, l.invariant.4, c.candidate-e.ensures.updates_value)
+    omega (arith, one, all, l.invariant.1, l.invariant.4, c.candidate-e.ensures.work)
 
 pub loop-t-preserved : goal.loop-t-preserved
 loop-t-preserved c = let l = c.loop-t in
@@ -64,10 +64,10 @@ loop-t-preserved c = let l = c.loop-t in
     let e = stepped fit_order l.t l.f c.next-f.result l.invariant.0 c.loop-t-test.true l.invariant.2 c.next-f.ensures in
     let f = e ∙ ap (face_at 3 7) (one_back l.t) in
     let yes = sym c.positive.ensures ∙ not-false _ c.if-not-positive.false-raw in
-    let scale = scale_same a.b.now a.g.now c.next-f.result a.scale l.t e c.requires.ws_len_bound.3 c.requires.ws_len_bound.2 l.invariant.0 c.loop-t-test.true in
+    let scale = scale_same a.b.now a.g.now c.next-f.result a.scale l.t e c.requires.sized.3 c.requires.sized.2 l.invariant.0 c.loop-t-test.true in
     let size = (good_at fit_order l.t c.next-f.result c.loop-t-test.true e).size in
-    let tried = try_at a.b.now a.g.now a.h.now a.pivot a.scale a.slack c.next-f.result size scale o yes c.candidate-e.result (c.candidate-e.ensures.f_value o) ∙ ap (try_of o p) e in
-    let one = work_under a.b.now a.g.now a.h.now a.pivot a.scale a.slack c.next-f.result size scale yes c.candidate-e.ensures.updates_value ∙ ap (face_updates p) e in
+    let tried = try_at a.b.now a.g.now a.h.now a.pivot a.scale a.slack c.next-f.result size scale o yes c.candidate-e.result (c.candidate-e.ensures.tried o) ∙ ap (try_of o p) e in
+    let one = work_under a.b.now a.g.now a.h.now a.pivot a.scale a.slack c.next-f.result size scale yes c.candidate-e.ensures.work ∙ ap (face_updates p) e in
     let more = work_next p l.t in
     let work : a.first + (l.updates + c.candidate-e.result.updates) ≡ updates_of p (l.t + 1) = omega (arith, one, more, l.invariant.4) in
     let on = one_more l.t in

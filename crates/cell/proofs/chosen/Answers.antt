@@ -24,7 +24,7 @@ pub best-all-requires : goal.best-all-requires
 best-all-requires c = let a = c.args in
     let q = c.requires in
     let e = c.pick.ensures ∙ ap (λ (s : Float). cond (lt s one) one s) q.2 in
-    record { ws_len_bound = (q.0, q.1, subst (Scaled a.b.now) (sym e) q.3, q.4); face_at_value = ap (λ (t : Tried). t.some) (sym c.empty-e.ensures.0) ∙ c.if-e.false; first_value = c.empty-e.ensures.1 }
+    record { sized = (q.0, q.1, subst (Scaled a.b.now) (sym e) q.3, q.4); empty_fails = ap (λ (t : Tried). t.some) (sym c.empty-e.ensures.0) ∙ c.if-e.false; empty_counted = c.empty-e.ensures.1 }
 
 pub returns : goal.returns
 unfolding chosen_of chosen_from

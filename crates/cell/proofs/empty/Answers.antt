@@ -42,8 +42,8 @@ returns-then-not-e c = let a = c.args in
     let e = scale_empty a.b.now a.g.now ∙ sym c.requires.2 in
     let yes = sym c.positive.ensures ∙ not-false _ c.if-not-positive.false-raw in
     let r = c.candidate-e.result in
-    let at = try_at a.b.now a.g.now a.h.now a.pivot a.scale a.slack (face_of []) (omega arith) e o yes r (c.candidate-e.ensures.f_value o) in
-    let work = work_under a.b.now a.g.now a.h.now a.pivot a.scale a.slack (face_of []) (omega arith) e yes c.candidate-e.ensures.updates_value ∙ alone p (sym fit_order.first) in
+    let at = try_at a.b.now a.g.now a.h.now a.pivot a.scale a.slack (face_of []) (omega arith) e o yes r (c.candidate-e.ensures.tried o) in
+    let work = work_under a.b.now a.g.now a.h.now a.pivot a.scale a.slack (face_of []) (omega arith) e yes c.candidate-e.ensures.work ∙ alone p (sym fit_order.first) in
     (if_false (valued_of (face_of []) r.x (o r.x)) {t = r.ok} (not-true r.ok c.if-not-e.true-raw) c.no_try-then-not-e.ensures ∙ at ∙ ap (try_of o p) (sym fit_order.first), work)
 
 pub returns : goal.returns
@@ -53,8 +53,8 @@ returns c = let a = c.args in
     let e = scale_empty a.b.now a.g.now ∙ sym c.requires.2 in
     let yes = sym c.positive.ensures ∙ not-false _ c.if-not-positive.false-raw in
     let r = c.candidate-e.result in
-    let at = try_at a.b.now a.g.now a.h.now a.pivot a.scale a.slack (face_of []) (omega arith) e o yes r (c.candidate-e.ensures.f_value o) in
-    let work = work_under a.b.now a.g.now a.h.now a.pivot a.scale a.slack (face_of []) (omega arith) e yes c.candidate-e.ensures.updates_value ∙ alone p (sym fit_order.first) in
+    let at = try_at a.b.now a.g.now a.h.now a.pivot a.scale a.slack (face_of []) (omega arith) e o yes r (c.candidate-e.ensures.tried o) in
+    let work = work_under a.b.now a.g.now a.h.now a.pivot a.scale a.slack (face_of []) (omega arith) e yes c.candidate-e.ensures.work ∙ alone p (sym fit_order.first) in
     let x = r.x in
     let value =
     c.judged.ensures ∙ ap₂ (λ (v : Float) (t : Tried). pick_of (valued_of (face_of []) x v) t) c.objective-v.ensures c.no_try-2.ensures

@@ -15,7 +15,7 @@ returns-then-not-enough c = let none = stops _ c.columns_hold-enough.ensures c.i
 
 pub keep-requires : goal.keep-requires
 keep-requires c = let r = columns_room _ _ _ _ _ c.columns_hold-enough.ensures c.if-not-enough.false-raw in
-    record { n_in_bounds = r; n_in_bounds_2 = omega arith }
+    record { columns_long = r; records_there = omega arith }
 
 pub returns : goal.returns
 returns c = let e = c.keep.ensures in

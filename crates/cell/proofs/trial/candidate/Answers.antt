@@ -14,15 +14,15 @@ pub returns-then-feasible : goal.returns-then-feasible
 returns-then-feasible c = let a = c.args in
     let s = c.solution-s in
     let w = ap (λ (g : List Float). feasible_of g a.h.now 7 a.slack (widened s.result.x)) c.requires.1 ∙ sym c.feasible.ensures ∙ c.if-feasible.true in
-    record { updates_value = ap (λ (t : Solved). t.updates) s.ensures; f_value = λ (o : List Float → Float). met o a.b.now a.g.now a.h.now a.limit a.slack a.f s.result _ s.ensures c.if-s.true true w }
+    record { work = ap (λ (t : Solved). t.updates) s.ensures; tried = λ (o : List Float → Float). met o a.b.now a.g.now a.h.now a.limit a.slack a.f s.result _ s.ensures c.if-s.true true w }
 
 pub returns-else-feasible : goal.returns-else-feasible
 returns-else-feasible c = let a = c.args in
     let s = c.solution-s in
     let w = ap (λ (g : List Float). feasible_of g a.h.now 7 a.slack (widened s.result.x)) c.requires.1 ∙ sym c.feasible.ensures ∙ c.if-feasible.false in
-    record { updates_value = ap (λ (t : Solved). t.updates) s.ensures; f_value = λ (o : List Float → Float). met o a.b.now a.g.now a.h.now a.limit a.slack a.f s.result _ s.ensures c.if-s.true false w }
+    record { work = ap (λ (t : Solved). t.updates) s.ensures; tried = λ (o : List Float → Float). met o a.b.now a.g.now a.h.now a.limit a.slack a.f s.result _ s.ensures c.if-s.true false w }
 
 pub returns-else-s : goal.returns-else-s
 returns-else-s c = let a = c.args in
     let s = c.solution-s in
-    record { updates_value = ap (λ (t : Solved). t.updates) s.ensures; f_value = λ (o : List Float → Float). unmet o a.b.now a.g.now a.h.now a.limit a.slack a.f s.result _ s.ensures c.if-s.false }
+    record { work = ap (λ (t : Solved). t.updates) s.ensures; tried = λ (o : List Float → Float). unmet o a.b.now a.g.now a.h.now a.limit a.slack a.f s.result _ s.ensures c.if-s.false }
