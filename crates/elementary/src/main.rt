@@ -2,6 +2,13 @@
 // these 16 hexadecimal digits; of each file the program writes how many lines have the answer that the function gives, and of how many, if not of all.
 #![tactic(auto)]
 
+ghost use Rattle.std.specs.Prelude.{◌≤◌, length, IfOk};
+
+use std::env::{Env, FillError};
+use std::fs::{self, Files};
+use std::io::{self, Error, ErrorKind, Read};
+use std::str;
+
 // The line so far: its name's letters, its spaces, and its last three words; and how many lines before it there were, and how many of them agreed.
 #[derive(Clone, Copy)]
 struct Reading {
@@ -111,8 +118,23 @@ fn all_fed(start: Reading, part: &[u8]) -> Reading {
     s
 }
 
+// Reads until buf is full or the input ends, since one read may give fewer bytes than there are. Returns how many bytes it put at the start of buf.
+fn read_full<R: Read>(input: &mut R, buf: &mut [u8]) -> io::Result<usize>
+    ensures { IfOk result (λ n. n ≤ length buf.new) }
+{
+    let mut done = 0;
+    while done < buf.len() {
+        let n = input.read(&mut buf[done..])?;
+        if n == 0 {
+            return Ok(done);
+        }
+        done += n;
+    }
+    Ok(done)
+}
+
 // Reads to the end, 65,536 bytes at a time.
-fn read_through(fd: i32) -> Reading {
+fn read_through<R: Read>(input: &mut R) -> io::Result<Reading> {
     let mut s = Reading {
         name: 0,
         spaces: 0,
@@ -122,45 +144,73 @@ fn read_through(fd: i32) -> Reading {
         lines: 0,
         equal: 0,
     };
-    let mut part = io::large_buffer();
+    let mut part = [0u8; 65536];
     let mut left: u64 = 1000000;
     while 0 < left {
         left -= 1;
-        let n = io::read_full(fd, &mut part);
+        let n = read_full(input, &mut part)?;
         if n == 0 {
-            return s;
+            return Ok(s);
         }
         s = all_fed(s, &part[..n]);
     }
-    s
+    Ok(s)
 }
 
-fn file(i: usize) {
-    let mut path = io::buffer();
-    let length = os::arg(i, &mut path);
-    let fd = os::open_read(&path[..length]);
-    if fd < 0 {
-        os::fail(&path[..length]);
-        return;
+// How many arguments there are, the program's own name among them.
+fn argument_count(rt: &impl Env) -> usize {
+    let mut name = [0u8; 4096];
+    for i in 0..usize::MAX {
+        if let Err(FillError::NotPresent) = rt.arg(i, &mut name) {
+            return i;
+        }
     }
-    let s = read_through(fd);
-    libc::close(fd);
-    io::write_all(1, &path[..length]);
-    io::write_all(1, b" ");
-    io::print_decimal(1, s.equal);
-    io::write_all(1, b" equal");
+    usize::MAX
+}
+
+// Puts argument i at the start of name and returns its length, or 0 where it is missing or longer than name: no file is called so.
+fn argument(rt: &impl Env, i: usize, name: &mut [u8]) -> usize
+    ensures { result ≤ length name.new }
+{
+    match rt.arg(i, name) {
+        Ok(n) => n,
+        Err(_) => 0,
+    }
+}
+
+fn text(name: &[u8]) -> io::Result<&str> {
+    match str::from_utf8(name) {
+        Ok(text) => Ok(text),
+        Err(_) => Err(Error::new(ErrorKind::InvalidData, "the name of a file is not UTF-8")),
+    }
+}
+
+// Writes a line on the file that argument i names. One that cannot be opened is said on standard error.
+fn file(rt: &(impl Env + Files + Print + Eprint), i: usize) -> io::Result<()> {
+    let mut name = [0u8; 4096];
+    let length = argument(rt, i, &mut name);
+    let path = text(&name[..length])?;
+    match fs::open(rt, path) {
+        Ok(mut file) => {
+            let s = read_through(&mut file)?;
+            say(rt, path, s)
+        }
+        Err(error) => eprintln!(rt; "{path}: {error}"),
+    }
+}
+
+fn say(rt: &impl Print, path: &str, s: Reading) -> io::Result<()> {
     if s.equal < s.lines {
-        io::write_all(1, b" of ");
-        io::print_decimal(1, s.lines);
+        println!(rt; "{path} {} equal of {}", s.equal, s.lines)
+    } else {
+        println!(rt; "{path} {} equal", s.equal)
     }
-    io::write_all(1, b"\n");
 }
 
-fn main() {
-    let n = os::arg_count();
-    let mut i = 1;
-    while i < n {
-        file(i);
-        i += 1;
+fn main(rt: HostRuntime) -> io::Result<()> {
+    let n = argument_count(&rt);
+    for i in 1..n {
+        file(&rt, i)?;
     }
+    Ok(())
 }

@@ -1,8 +1,12 @@
 // Replays stored house files. The arguments are pairs: a house file, and the Rust's answer to it. For each pair, whether the port's answer has the same bytes.
 #![tactic(auto)]
 
-ghost use Rattle.std.specs.Prelude.{◌≡◌, true, ◌+◌, ◌≤◌, ◌<◌};
-ghost use Rattle.io.specs.Counts.{IsPrefixLen};
+ghost use Rattle.std.specs.Prelude.{◌≡◌, true, ◌+◌, ◌≤◌, ◌<◌, length, IfOk};
+
+use std::env::{Env, FillError};
+use std::fs::{self, Files};
+use std::io::{self, Error, ErrorKind, Read};
+use std::str;
 
 // Says `true` only of the same bytes.
 fn equal(a: &[u8], b: &[u8]) -> bool
@@ -21,35 +25,79 @@ fn equal(a: &[u8], b: &[u8]) -> bool
     true
 }
 
-// Reads the file that argument i names.
-fn load(i: usize, buf: &mut [u8]) -> usize
-    ensures { IsPrefixLen result buf.new }
+// Reads until buf is full or the input ends, since one read may give fewer bytes than there are. Returns how many bytes it put at the start of buf.
+fn read_full<R: Read>(input: &mut R, buf: &mut [u8]) -> io::Result<usize>
+    ensures { IfOk result (λ n. n ≤ length buf.new) }
 {
-    let mut path = io::buffer();
-    let length = os::arg(i, &mut path);
-    let fd = os::open_read(&path[..length]);
-    if fd < 0 {
-        os::fail(&path[..length]);
+    let mut done = 0;
+    while done < buf.len() {
+        let n = input.read(&mut buf[done..])?;
+        if n == 0 {
+            return Ok(done);
+        }
+        done += n;
     }
-    let n = io::read_full(fd, buf);
-    libc::close(fd);
-    n
+    Ok(done)
 }
 
-fn print_name(i: usize) {
-    let mut name = io::buffer();
-    let length = os::arg(i, &mut name);
-    io::write_all(1, &name[..length]);
+// How many arguments there are, the program's own name among them.
+fn argument_count(rt: &impl Env) -> usize {
+    let mut name = [0u8; 4096];
+    for i in 0..usize::MAX {
+        if let Err(FillError::NotPresent) = rt.arg(i, &mut name) {
+            return i;
+        }
+    }
+    usize::MAX
 }
 
-fn one(i: usize, j: usize) -> bool {
+// Puts argument i at the start of name and returns its length, or 0 where it is missing or longer than name: no file is called so.
+fn argument(rt: &impl Env, i: usize, name: &mut [u8]) -> usize
+    ensures { result ≤ length name.new }
+{
+    match rt.arg(i, name) {
+        Ok(n) => n,
+        Err(_) => 0,
+    }
+}
+
+fn text(name: &[u8]) -> io::Result<&str> {
+    match str::from_utf8(name) {
+        Ok(text) => Ok(text),
+        Err(_) => Err(Error::new(ErrorKind::InvalidData, "the name of a file is not UTF-8")),
+    }
+}
+
+// Reads the file that argument i names. One that cannot be opened is said on standard error, and counts as empty.
+fn load(rt: &(impl Env + Files + Eprint), i: usize, buf: &mut [u8]) -> io::Result<usize>
+    ensures { IfOk result (λ n. n ≤ length buf.new) }
+{
+    let mut name = [0u8; 4096];
+    let length = argument(rt, i, &mut name);
+    let path = text(&name[..length])?;
+    match fs::open(rt, path) {
+        Ok(mut file) => read_full(&mut file, buf),
+        Err(error) => {
+            eprintln!(rt; "{path}: {error}")?;
+            Ok(0)
+        }
+    }
+}
+
+fn print_name(rt: &(impl Env + Print), i: usize) -> io::Result<()> {
+    let mut name = [0u8; 4096];
+    let length = argument(rt, i, &mut name);
+    rt.write_all(&name[..length])
+}
+
+fn one(rt: &(impl Env + Files + Eprint), i: usize, j: usize) -> io::Result<bool> {
     let mut file = [0u8; 8301];
-    let n = load(i, &mut file);
+    let n = load(rt, i, &mut file)?;
     let mut stored = [0u8; 32769];
-    let s = load(j, &mut stored);
+    let s = load(rt, j, &mut stored)?;
     let mut out = [0u8; 32768];
     let m = run::run(&file[..n], &mut out);
-    equal(&out[..m], &stored[..s])
+    Ok(equal(&out[..m], &stored[..s]))
 }
 
 fn counted(n: usize, one_more: bool) -> usize
@@ -59,32 +107,29 @@ fn counted(n: usize, one_more: bool) -> usize
     if one_more { n + 1 } else { n }
 }
 
-fn say(same: bool) {
+fn say(rt: &impl Print, same: bool) -> io::Result<()> {
     if same {
-        io::write_all(1, b" equal\n");
+        println!(rt; " equal")
     } else {
-        io::write_all(1, b" DIFFERS\n");
+        println!(rt; " DIFFERS")
     }
 }
 
-fn summary(files: usize, same: usize) {
-    io::print_decimal(1, files as u64);
-    io::write_all(1, b" files, ");
-    io::print_decimal(1, same as u64);
-    io::write_all(1, b" equal\n");
+fn summary(rt: &impl Print, files: usize, same: usize) -> io::Result<()> {
+    println!(rt; "{files} files, {same} equal")
 }
 
-fn main() {
-    let pairs = os::arg_count() / 2;
+fn main(rt: HostRuntime) -> io::Result<()> {
+    let pairs = argument_count(&rt) / 2;
     let mut files = 0;
     let mut same = 0;
     while files < pairs {
         let i = 2 * files + 1;
-        print_name(i);
-        let equals = one(i, i + 1);
-        say(equals);
+        print_name(&rt, i)?;
+        let equals = one(&rt, i, i + 1)?;
+        say(&rt, equals)?;
         same = counted(same, equals);
         files += 1;
     }
-    summary(files, same);
+    summary(&rt, files, same)
 }
