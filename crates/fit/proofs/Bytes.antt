@@ -1,7 +1,6 @@
 -- What a reader gave, what stands in lent room, and what a writer then holds. Assumes nothing.
-use Rattle.std.proofs.Common.{◌≡◌, ℕ, ◌≤◌, ◌<◌, List, ◌++◌, length, take, drop, arith, sym, ap, ◌∙◌, subst, take_all, append-nil, cond, Some, None, IfSome, OnOk, Result, inl, inr}
+use Rattle.std.proofs.Common.{◌≡◌, ℕ, ◌≤◌, ◌<◌, List, ◌++◌, length, take, drop, arith, sym, ap, ◌∙◌, subst, take_all, append-nil, cond, Some, None, IfSome, inl, inr}
 use Rattle.std.proofs.lemmas.Bool.{le-leb, cases_lt}
-use Rattle.std.proofs.lemmas.Result.{on_ok_weaker}
 use Rattle.std.proofs.lemmas.List.{take-append-le}
 use Rattle.std.specs.Io.KnownBytes.{Consumes, IsAtEnd, Appends}
 use Rattle.std.specs.declared.option.Option.{Option}
@@ -30,8 +29,8 @@ placed_front text before n e h =
     let all : length text ≤ n = omega arith in
     ap (λ b. take n (cond b (at_front text before) before)) fits ∙ take-append-le n text (drop (length text) before) (omega arith) ∙ take_all n text all
 
--- a text that was written whole, where it is what belongs to the first of the known bytes
-pub wrote_of : {T E : Type 0} (f : List ℕ → List ℕ) (room : ℕ) (r : Result T E) (known held holds : Option (List ℕ)) (bs text : List ℕ) → OnOk r (Appends held holds text)
-    → text ≡ f bs → IfSome known (λ xs. take room xs ≡ bs) → OnOk r (IfSome known (λ xs. Appends held holds (f (take room xs))))
-wrote_of f room r None held holds bs text a e h = on_ok_weaker r (λ w. tt) a
-wrote_of f room r (Some xs) held holds bs text a e h = on_ok_weaker r (subst (Appends held holds) (e ∙ ap f (sym h))) a
+-- a text that was written, where it is what belongs to the first of the known bytes
+pub wrote_of : (f : List ℕ → List ℕ) (room : ℕ) (known held holds : Option (List ℕ)) (bs text : List ℕ) → Appends held holds text → text ≡ f bs
+    → IfSome known (λ xs. take room xs ≡ bs) → IfSome known (λ xs. Appends held holds (f (take room xs)))
+wrote_of f room None held holds bs text a e h = tt
+wrote_of f room (Some xs) held holds bs text a e h = subst (Appends held holds) (e ∙ ap f (sym h)) a
