@@ -1,5 +1,4 @@
 -- The answers about one slice as records: the number of a refusal, or 0, and the values of each case. A refusal carries zeros. Definitions only.
-use Rattle.std.specs.Prelude.{Float}
 use Rattle.laws.specs.Floats.{+0}
 use Rattle.slice.specs.declared.Ranged.{Ranged}
 use Rattle.slice.specs.declared.Ranged.TheVariants as ranged

@@ -1,7 +1,7 @@
 -- 37: on a valid surface, at a point that passes 34 and 35, `bracket`, `region` and `total_variance` refuse with 37 exactly where tau is beyond the last node and not within its tolerance, whatever the policy.
 -- A tau beyond the last node is within no earlier node's tolerance, which is at most a quarter of the gap to the next node. Assumes nothing.
 use mathlib.Core.Path.{◌≡◌, refl, sym, ap, subst, ◌∙◌}
-use mathlib.Core.Bool.{Bool, true, false, not, ◌||◌, cond}
+use mathlib.Core.Bool.{Bool, true, false, ◌||◌, cond}
 use mathlib.Core.List.{List}
 use mathlib.Core.Logic.{◌↔◌, ⊎_elim}
 use Prim.Native.Nat.{ℕ, zero, suc, ◌+◌, ◌-◌, ◌*◌, ◌≤◌, ◌<◌}

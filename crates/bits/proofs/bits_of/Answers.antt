@@ -1,5 +1,4 @@
 -- `bits_of` meets its contract: what differs from itself is NaN, and its bits are those that `to_bits` writes. Assumes nothing.
-use borrow.Author.Rules.{rules}
 use Rattle.laws.proofs.Floats.{nan_bits_lem, self_same}
 use Rattle.bits.proofs.bits_of.Goals as goal
 

@@ -1,5 +1,4 @@
 -- `byte_at` meets its contract: within the slice by the read, past its end by the default. Assumes nothing.
-use borrow.Author.Rules.{rules}
 use native.Mathlib.Omega.{arith}
 use mathlib.Core.Path.{refl, sym}
 use lib.ListN.{get_or-eq_default}

@@ -1,5 +1,4 @@
 -- `f64_of` meets its contract: its test is `nan_bits_above`. Assumes nothing.
-use borrow.Author.Rules.{rules}
 use mathlib.Core.Path.{sym, ◌∙◌}
 use borrow.Author.Tests.{lt-ltb, le-ltb}
 use Rattle.laws.proofs.Floats.{div_zeros, nan_of, not_nan_of}

@@ -1,6 +1,5 @@
 -- `bits::max` meets its contract. Assumes nothing.
 use Rattle.laws.specs.Floats.{max_of}
-use borrow.Author.Rules.{rules}
 use Rattle.bits.proofs.max.Goals as goal
 
 pub returns : goal.returns

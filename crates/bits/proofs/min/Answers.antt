@@ -1,6 +1,5 @@
 -- `bits::min` meets its contract. Assumes nothing.
 use Rattle.laws.specs.Floats.{min_of}
-use borrow.Author.Rules.{rules}
 use Rattle.bits.proofs.min.Goals as goal
 
 pub returns : goal.returns

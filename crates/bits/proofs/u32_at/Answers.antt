@@ -1,5 +1,4 @@
 -- `u32_at` meets its contract: past the end it is 0, else a sum of four bytes, each below 256. Assumes nothing.
-use borrow.Author.Rules.{rules}
 use native.Mathlib.Omega.{arith}
 use Rattle.bits.proofs.Past.{past32}
 use Rattle.bits.proofs.u32_at.Goals as goal

@@ -10,7 +10,6 @@ use Rattle.records.specs.Answer.{refused_with}
 use Rattle.calibrate.specs.Fit.{refused_early, decided_of, fit_of}
 use Rattle.entry.proofs.Known.{passed, entry_first, entry_five, entry_none, ok_is, cap_is, taken, scaled_long, scaled_within}
 use Rattle.calibrate.proofs.Contract.{refuses, accepts}
-use borrow.Author.Rules.{rules}
 use native.Mathlib.Omega.{arith}
 use Rattle.calibrate.proofs.fit_slice.Goals as goal
 

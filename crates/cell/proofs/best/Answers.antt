@@ -1,14 +1,11 @@
 use mathlib.Core.Path.{◌≡◌, refl, sym, ap, ◌∙◌}
 use mathlib.Core.Bool.{false}
-use mathlib.Core.Logic.{⊎_elim}
-use Prim.Native.Nat.{ℕ, ◌+◌, ◌-◌, ◌≤◌, ◌<◌}
+use Prim.Native.Nat.{ℕ, ◌+◌, ◌<◌}
 use native.Mathlib.Numerals.{add-one-le}
 use native.Mathlib.Nat.{add-zero}
 use native.Mathlib.Omega.{arith}
 use lib.Ieee.{Float}
 use borrow.Author.Tests.{not-true, not-false}
-use borrow.Author.Rules.{rules}
-use Rattle.laws.specs.Loop.{for}
 use Rattle.laws.specs.Floats.{◌*f◌}
 use Rattle.laws.proofs.Choices.{if_true, if_false}
 use Rattle.laws.proofs.Loops.{again, ended}
@@ -74,11 +71,11 @@ loop-t-preserved c = let l = c.loop-t in
     let under = add-one-le c.loop-t-test.true in
     let next = again _ _ _ c.loop-t-test.true in
     elim c.if-e.branch [
-      then-e w ↦
-    let x = c.candidate-e.result.x in
-    let valued = w.best-is ∙ w.judged-best.ensures ∙ ap (λ (v : Float). pick_of (valued_of c.next-f.result x v) l.best) w.objective-v.ensures in
-    (on, under, f, next (valued ∙ ap (λ (t : Tried). pick_of t l.best) (if_true _ w.if-e.true refl ∙ tried)) l.invariant.3, work)
-    | else-e w ↦ (on, under, f, next (w.best-is ∙ passed_over no_try l.best refl ∙ ap (λ (t : Tried). pick_of t l.best) (if_false _ w.if-e.false refl ∙ tried)) l.invariant.3, work)
+      | then-e w ↦
+          let x = c.candidate-e.result.x in
+          let valued = w.best-is ∙ w.judged-best.ensures ∙ ap (λ (v : Float). pick_of (valued_of c.next-f.result x v) l.best) w.objective-v.ensures in
+          (on, under, f, next (valued ∙ ap (λ (t : Tried). pick_of t l.best) (if_true _ w.if-e.true refl ∙ tried)) l.invariant.3, work)
+      | else-e w ↦ (on, under, f, next (w.best-is ∙ passed_over no_try l.best refl ∙ ap (λ (t : Tried). pick_of t l.best) (if_false _ w.if-e.false refl ∙ tried)) l.invariant.3, work)
     ]
 
 pub overflow_add-result : goal.overflow_add-result

@@ -1,27 +1,11 @@
 -- `cell::best` meets its contract. The face at hand is the one before face t. Assumes nothing.
-use mathlib.Core.Path.{◌≡◌, refl, sym, ap, ◌∙◌}
-use mathlib.Core.Bool.{false}
-use mathlib.Core.Logic.{⊎_elim}
-use Prim.Native.Nat.{ℕ, ◌+◌, ◌-◌, ◌≤◌, ◌<◌}
-use native.Mathlib.Numerals.{add-one-le}
-use native.Mathlib.Nat.{add-zero}
-use native.Mathlib.Omega.{arith}
-use lib.Ieee.{Float}
-use borrow.Author.Tests.{not-true, not-false}
-use borrow.Author.Rules.{rules}
+use mathlib.Core.Path.{◌≡◌}
+use Prim.Native.Nat.{◌+◌, ◌-◌, ◌≤◌}
 use Rattle.laws.specs.Loop.{for}
-use Rattle.laws.specs.Floats.{◌*f◌}
-use Rattle.laws.proofs.Choices.{if_true, if_false}
-use Rattle.laws.proofs.Loops.{again, ended}
-use Rattle.solver.specs.Solve.{scale_of}
-use Rattle.cell.specs.declared.Tried.{Tried}
 use Rattle.faces.specs.Faces.{face_at}
 use Rattle.cell.specs.Least.{objective_at}
-use Rattle.cell.specs.Cell.{kkt_of, no_try, valued_of, try_of, face_updates, updates_of, pick_of, best_of}
-use Rattle.cell.specs.Shared.{block_of, problem_in}
-use Rattle.cell.proofs.Laws.{passed_over, one_more, one_back, best_none, zero_or_more, scale_same, try_at, try_none, work_under, work_none}
-use Rattle.cell.proofs.Work.{work_next, work_still, one_system, some_faces}
-use Rattle.faces.proofs.Orders.{fit_order, stepped, good_at}
+use Rattle.cell.specs.Cell.{try_of, updates_of, pick_of, best_of}
+use Rattle.cell.specs.Shared.{problem_in}
 use Rattle.cell.proofs.best.Given as goal
 
 abbrev pub invariant-loop-t : goal.invariant-loop-t

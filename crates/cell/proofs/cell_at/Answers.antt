@@ -3,7 +3,6 @@ use mathlib.Core.Path.{ap, ap₂, ◌∙◌}
 use mathlib.Core.List.{List}
 use lib.ListN.{length}
 use lib.Ieee.{Float}
-use borrow.Author.Rules.{rules}
 use Rattle.laws.specs.Floats.{at}
 use Rattle.laws.specs.Room.{filled_on}
 use Rattle.cell.specs.Least.{h_of}

@@ -1,5 +1,4 @@
 -- `cell::cell_from` meets its contract. Assumes nothing.
-use borrow.Author.Rules.{rules}
 use Rattle.cell.specs.Cell.{cell_from}
 use Rattle.cell.proofs.cell_from.Goals as goal
 

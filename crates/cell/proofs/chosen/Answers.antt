@@ -3,7 +3,6 @@ use mathlib.Core.Path.{sym, ap, ap₂, subst, ◌∙◌}
 use mathlib.Core.Bool.{cond}
 use Prim.Native.Nat.{ℕ}
 use lib.Ieee.{Float, lt}
-use borrow.Author.Rules.{rules}
 use Rattle.laws.specs.Floats.{one}
 use Rattle.laws.proofs.Choices.{if_true, if_false}
 use Rattle.cell.specs.declared.Tried.{Tried}

@@ -4,8 +4,6 @@ use mathlib.Core.List.{[]}
 use native.Mathlib.Omega.{arith}
 use lib.Ieee.{Float}
 use borrow.Author.Tests.{not-true, not-false}
-use borrow.Author.Rules.{rules}
-use Rattle.laws.specs.Floats.{positive}
 use Rattle.laws.proofs.Choices.{if_true, if_false}
 use Rattle.cell.specs.declared.Tried.{Tried}
 use Rattle.faces.specs.declared.Face.{Face}

@@ -4,7 +4,6 @@ use Prim.Native.Nat.{◌≤◌}
 use native.Mathlib.Omega.{arith}
 use lib.ListN.{length, replicate, length-replicate}
 use Rattle.laws.specs.Floats.{+0}
-use borrow.Author.Rules.{rules}
 use Rattle.cell.proofs.Laws.{inner_lent}
 use Rattle.cell.proofs.inner.Goals as goal
 

@@ -2,7 +2,6 @@
 use mathlib.Core.Path.{sym, ap, subst, ◌∙◌}
 use mathlib.Core.List.{List}
 use lib.Ieee.{Float}
-use borrow.Author.Rules.{rules}
 use Rattle.cell.specs.Least.{objective_at}
 use Rattle.cell.specs.Cell.{Problem, chosen_of, posed_of}
 use Rattle.cell.specs.Shared.{other_scale, Scaled}

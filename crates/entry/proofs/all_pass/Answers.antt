@@ -1,13 +1,7 @@
-use mathlib.Core.Path.{◌≡◌, refl, ap}
-use Prim.Native.Nat.{◌-◌}
-use lib.ListN.{length}
-use Rattle.laws.specs.Loop.{for}
-use Rattle.laws.specs.Floats.{at}
+use mathlib.Core.Path.{refl, ap}
 use Rattle.laws.proofs.Loops.{again, ended}
 use mathlib.Core.Bool.{Bool, ◌&&◌}
-use Rattle.records.specs.Observation.{passes}
 use Rattle.entry.specs.Entry.{columns_pass}
-use native.Mathlib.Omega.{arith}
 use Rattle.entry.proofs.all_pass.Goals as goal
 
 pub loop-i-init : goal.loop-i-init

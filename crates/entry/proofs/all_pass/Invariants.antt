@@ -1,14 +1,12 @@
 -- `entry::all_pass` meets its contract. Assumes nothing.
-use mathlib.Core.Path.{◌≡◌, refl, ap}
+use mathlib.Core.Path.{◌≡◌}
 use Prim.Native.Nat.{◌-◌}
 use lib.ListN.{length}
 use Rattle.laws.specs.Loop.{for}
 use Rattle.laws.specs.Floats.{at}
-use Rattle.laws.proofs.Loops.{again, ended}
-use mathlib.Core.Bool.{Bool, ◌&&◌}
+use mathlib.Core.Bool.{◌&&◌}
 use Rattle.records.specs.Observation.{passes}
 use Rattle.entry.specs.Entry.{columns_pass}
-use native.Mathlib.Omega.{arith}
 use Rattle.entry.proofs.all_pass.Given as goal
 
 abbrev pub invariant-loop-i : goal.invariant-loop-i

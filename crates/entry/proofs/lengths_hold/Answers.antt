@@ -1,7 +1,6 @@
 -- `entry::lengths_hold` meets its contract. Assumes nothing.
 use mathlib.Core.Path.{refl}
 use Rattle.entry.specs.Entry.{lengths_hold}
-use borrow.Author.Rules.{rules}
 use Rattle.entry.proofs.lengths_hold.Goals as goal
 
 pub returns : goal.returns

@@ -1,11 +1,6 @@
-use mathlib.Core.Path.{◌≡◌, refl}
-use Prim.Native.Nat.{◌-◌}
-use lib.ListN.{length}
-use Rattle.laws.specs.Loop.{for}
-use Rattle.laws.specs.Floats.{at, min_of, max_of}
+use mathlib.Core.Path.{refl}
 use Rattle.laws.proofs.Loops.{again, ended}
 use Rattle.entry.specs.Entry.{range_of}
-use native.Mathlib.Omega.{arith}
 use Rattle.entry.proofs.range_of.Goals as goal
 
 pub loop-i-init : goal.loop-i-init

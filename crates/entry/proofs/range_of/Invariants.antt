@@ -1,12 +1,10 @@
 -- `entry::range_of` meets its contract. Assumes nothing.
-use mathlib.Core.Path.{◌≡◌, refl}
+use mathlib.Core.Path.{◌≡◌}
 use Prim.Native.Nat.{◌-◌}
 use lib.ListN.{length}
 use Rattle.laws.specs.Loop.{for}
 use Rattle.laws.specs.Floats.{at, min_of, max_of}
-use Rattle.laws.proofs.Loops.{again, ended}
 use Rattle.entry.specs.Entry.{range_of}
-use native.Mathlib.Omega.{arith}
 use Rattle.entry.proofs.range_of.Given as goal
 
 abbrev pub invariant-loop-i : goal.invariant-loop-i

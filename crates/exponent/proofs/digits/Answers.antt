@@ -1,5 +1,5 @@
 -- `digits` meets its contract: the patterns that it makes lie below the infinity's, so none is a NaN's. Assumes nothing.
-use Rattle.std.proofs.Common.{arith, rules}
+use Rattle.std.proofs.Common.{arith}
 use Rattle.laws.proofs.Patterns.{below_nan}
 use Rattle.exponent.proofs.digits.Goals as goal
 

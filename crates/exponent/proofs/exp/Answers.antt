@@ -1,5 +1,5 @@
 -- `exp` meets its contract: each exit is the arm that `exp_of` picks. Assumes nothing.
-use Rattle.std.proofs.Common.{Bool, not, T, sym, subst, rules}
+use Rattle.std.proofs.Common.{Bool, not, T, sym, subst}
 use Rattle.exponent.specs.Exp.{exp_of}
 use Rattle.laws.proofs.Values.{div_one_zero}
 use Rattle.exponent.proofs.Tests.{not_above_746, turned}

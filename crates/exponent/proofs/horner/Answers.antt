@@ -1,7 +1,4 @@
-use Rattle.std.proofs.Common.{◌≡◌, ℕ, ◌-◌, refl, arith, rules}
-use lib.Ieee.{Float}
-use Rattle.laws.specs.Loop.{for}
-use Rattle.laws.specs.Floats.{◌+f◌, ◌*f◌, ◌/f◌, num, one}
+use Rattle.std.proofs.Common.{refl}
 use Rattle.laws.proofs.Loops.{again, ended}
 use Rattle.exponent.specs.Exp.{horner_of}
 use Rattle.exponent.proofs.horner.Goals as goal

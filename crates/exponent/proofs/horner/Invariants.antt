@@ -1,9 +1,8 @@
 -- `horner` meets its contract: what is left of the turns, done to the present e, is the whole. Assumes nothing.
-use Rattle.std.proofs.Common.{◌≡◌, ℕ, ◌-◌, refl, arith, rules}
+use Rattle.std.proofs.Common.{◌≡◌, ℕ, ◌-◌}
 use lib.Ieee.{Float}
 use Rattle.laws.specs.Loop.{for}
 use Rattle.laws.specs.Floats.{◌+f◌, ◌*f◌, ◌/f◌, num, one}
-use Rattle.laws.proofs.Loops.{again, ended}
 use Rattle.exponent.specs.Exp.{horner_of}
 use Rattle.exponent.proofs.horner.Given as goal
 

@@ -1,5 +1,4 @@
 -- `joined` meets its contract. Assumes nothing.
-use Rattle.std.proofs.Common.{rules}
 use Rattle.exponent.specs.Ln.{joined_of}
 use Rattle.exponent.proofs.joined.Goals as goal
 

@@ -1,5 +1,4 @@
 -- `kernel` meets its contract. Assumes nothing.
-use Rattle.std.proofs.Common.{rules}
 use Rattle.exponent.specs.Exp.{kernel_of, series_of, upper_of}
 use Rattle.exponent.proofs.kernel.Goals as goal
 

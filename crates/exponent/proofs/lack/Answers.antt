@@ -1,5 +1,4 @@
 -- `lack` meets its contract. Assumes nothing.
-use Rattle.std.proofs.Common.{rules}
 use Rattle.exponent.specs.Exp.{lack_of}
 use Rattle.exponent.proofs.lack.Goals as goal
 

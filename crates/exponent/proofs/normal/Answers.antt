@@ -1,5 +1,5 @@
 -- `normal` meets its contract: a bit pattern has 64 digits, so that the exponent's field and 1 is no overflow. Assumes nothing.
-use Rattle.std.proofs.Common.{T, sym, subst, arith, rules}
+use Rattle.std.proofs.Common.{T, sym, subst, arith}
 use lib.Ieee.{binary64}
 use lib.Ieee.Bits.{to_bits-lt}
 use Rattle.exponent.specs.Ln.{normal_of}

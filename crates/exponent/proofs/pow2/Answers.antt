@@ -1,5 +1,5 @@
 -- `pow2` meets its contract: the pattern lies below the infinity's, so it is no NaN's. Assumes nothing.
-use Rattle.std.proofs.Common.{arith, rules}
+use Rattle.std.proofs.Common.{arith}
 use Rattle.laws.proofs.Patterns.{below_nan}
 use Rattle.exponent.proofs.pow2.Goals as goal
 

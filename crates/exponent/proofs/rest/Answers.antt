@@ -1,5 +1,4 @@
 -- `rest` meets its contract. Assumes nothing.
-use Rattle.std.proofs.Common.{rules}
 use Rattle.exponent.specs.Exp.{rest_of}
 use Rattle.exponent.proofs.rest.Goals as goal
 

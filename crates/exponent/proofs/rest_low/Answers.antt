@@ -1,5 +1,4 @@
 -- `rest_low` meets its contract. Assumes nothing.
-use Rattle.std.proofs.Common.{rules}
 use Rattle.exponent.specs.Exp.{rest_low_of}
 use Rattle.exponent.proofs.rest_low.Goals as goal
 

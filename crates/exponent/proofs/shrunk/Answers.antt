@@ -1,5 +1,5 @@
 -- `shrunk` meets its contract; n is 1100 at most, so the two powers' fields stay in range. Assumes nothing.
-use Rattle.std.proofs.Common.{arith, rules}
+use Rattle.std.proofs.Common.{arith}
 use Rattle.exponent.specs.Exp.{shrunk_of}
 use Rattle.exponent.proofs.ExpReduce.{turns_le}
 use Rattle.exponent.proofs.shrunk.Goals as goal

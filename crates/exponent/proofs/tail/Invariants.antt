@@ -1,9 +1,8 @@
 -- `tail` meets its contract: what is left of the turns, done to the present p, is the whole. Assumes nothing.
-use Rattle.std.proofs.Common.{◌≡◌, ℕ, ◌-◌, ◌*◌, refl, arith, rules}
+use Rattle.std.proofs.Common.{◌≡◌, ℕ, ◌-◌, ◌*◌}
 use lib.Ieee.{Float}
 use Rattle.laws.specs.Loop.{for}
 use Rattle.laws.specs.Floats.{◌+f◌, ◌*f◌, ◌/f◌, num, two}
-use Rattle.laws.proofs.Loops.{again, ended}
 use Rattle.exponent.specs.Ln.{tail_of}
 use Rattle.exponent.proofs.tail.Given as goal
 

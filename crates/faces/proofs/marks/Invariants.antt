@@ -1,14 +1,9 @@
 -- `faces::marks` meets its contract. A member that is none of the seven marks nothing, as `set` beyond a list's end. Assumes nothing.
-use mathlib.Core.Path.{◌≡◌, refl, sym, ap, ◌∙◌}
+use mathlib.Core.Path.{◌≡◌}
 use mathlib.Core.Bool.{true}
-use mathlib.Core.Logic.{⊎_elim}
-use Prim.Native.Nat.{ℕ, ◌-◌}
-use native.Mathlib.Omega.{arith}
-use lib.ListN.{length, set, length-set}
-use lib.Seq.{set_out}
-use borrow.Author.Rules.{rules}
+use Prim.Native.Nat.{◌-◌}
+use lib.ListN.{length, set}
 use Rattle.laws.specs.Loop.{for}
-use Rattle.laws.proofs.Loops.{again, ended}
 use Rattle.faces.specs.Faces.{member_of, face_marks}
 use Rattle.faces.proofs.marks.Given as goal
 

@@ -1,7 +1,6 @@
 -- `faces::next` meets its contract. Assumes nothing.
 use mathlib.Core.Path.{refl}
 use borrow.Author.Tests.{eq-eqb, ne_eqb}
-use borrow.Author.Rules.{rules}
 use Rattle.laws.proofs.Choices.{if_true, if_false}
 use Rattle.faces.specs.Next.{next_of}
 use Rattle.faces.proofs.next.Goals as goal

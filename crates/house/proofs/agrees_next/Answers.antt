@@ -1,9 +1,4 @@
 use borrow.Author.Rules.{rules}
-use Prim.Native.Nat.{◌+◌, ◌*◌, ◌≤◌}
-use mathlib.Core.Path.{◌≡◌}
-use lib.ListN.{length}
-use Rattle.house.specs.File.{quotes}
-use Rattle.house.specs.Next.{agrees_next}
 use Rattle.house.proofs.Repeating.{next_met, next_passed, none_next}
 use Rattle.house.proofs.agrees_next.Goals as goal
 

@@ -1,11 +1,9 @@
 -- `house::agrees_next` meets its contract. Assumes nothing.
-use borrow.Author.Rules.{rules}
 use Prim.Native.Nat.{◌+◌, ◌*◌, ◌≤◌}
 use mathlib.Core.Path.{◌≡◌}
 use lib.ListN.{length}
 use Rattle.house.specs.File.{quotes}
 use Rattle.house.specs.Next.{agrees_next}
-use Rattle.house.proofs.Repeating.{next_met, next_passed, none_next}
 use Rattle.house.proofs.agrees_next.Given as goal
 
 abbrev pub invariant-loop-left : goal.invariant-loop-left

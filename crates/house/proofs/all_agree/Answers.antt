@@ -1,10 +1,5 @@
 use borrow.Author.Rules.{rules}
-use Prim.Native.Nat.{◌+◌, ◌*◌, ◌≤◌}
-use mathlib.Core.Path.{◌≡◌}
-use lib.ListN.{length}
 use Rattle.house.specs.File.{quotes}
-use Rattle.house.specs.Repeats.{all_agree}
-use Rattle.house.specs.Next.{all_agree_next}
 use Rattle.house.proofs.Once.{next_is}
 use Rattle.house.proofs.Repeating.{some_clash, no_clash, all_agreed}
 use Rattle.house.proofs.all_agree.Goals as goal

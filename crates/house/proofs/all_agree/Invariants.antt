@@ -1,13 +1,10 @@
 -- `house::all_agree` meets its contract. Assumes nothing.
-use borrow.Author.Rules.{rules}
 use Prim.Native.Nat.{◌+◌, ◌*◌, ◌≤◌}
 use mathlib.Core.Path.{◌≡◌}
 use lib.ListN.{length}
 use Rattle.house.specs.File.{quotes}
 use Rattle.house.specs.Repeats.{all_agree}
 use Rattle.house.specs.Next.{all_agree_next}
-use Rattle.house.proofs.Once.{next_is}
-use Rattle.house.proofs.Repeating.{some_clash, no_clash, all_agreed}
 use Rattle.house.proofs.all_agree.Given as goal
 
 abbrev pub invariant-loop-left : goal.invariant-loop-left

@@ -1,9 +1,4 @@
 use borrow.Author.Rules.{rules}
-use Prim.Native.Nat.{◌+◌, ◌*◌, ◌≤◌}
-use mathlib.Core.Path.{◌≡◌}
-use lib.ListN.{length}
-use Rattle.house.specs.File.{quotes}
-use Rattle.house.specs.Check.{all_pass}
 use Rattle.house.proofs.Repeating.{bad, good, all_good}
 use Rattle.house.proofs.all_pass.Goals as goal
 

@@ -1,11 +1,9 @@
 -- `house::all_pass` meets its contract. Assumes nothing.
-use borrow.Author.Rules.{rules}
 use Prim.Native.Nat.{◌+◌, ◌*◌, ◌≤◌}
 use mathlib.Core.Path.{◌≡◌}
 use lib.ListN.{length}
 use Rattle.house.specs.File.{quotes}
 use Rattle.house.specs.Check.{all_pass}
-use Rattle.house.proofs.Repeating.{bad, good, all_good}
 use Rattle.house.proofs.all_pass.Given as goal
 
 abbrev pub invariant-loop-left : goal.invariant-loop-left

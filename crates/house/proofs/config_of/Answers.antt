@@ -1,6 +1,5 @@
 -- `house::config_of` meets its contract. Assumes nothing.
 use borrow.Author.Tests.{eq-eqb, ne_eqb}
-use borrow.Author.Rules.{rules}
 use Rattle.house.specs.File.{config_of}
 use Rattle.laws.proofs.Choices.{if_true, if_false}
 use Rattle.house.proofs.config_of.Goals as goal

@@ -1,5 +1,4 @@
 -- `house::f64_at` meets its contract. Assumes nothing.
-use borrow.Author.Rules.{rules}
 use Rattle.house.specs.File.{f64_at}
 use Rattle.house.proofs.f64_at.Goals as goal
 

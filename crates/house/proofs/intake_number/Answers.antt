@@ -1,6 +1,5 @@
 -- `house::intake_number` meets its contract. Assumes nothing.
 use mathlib.Core.Path.{refl, ◌∙◌}
-use borrow.Author.Rules.{rules}
 use Rattle.laws.proofs.Choices.{stops, goes}
 use Rattle.house.proofs.Taking.{intake_is}
 use Rattle.house.proofs.intake_number.Goals as goal

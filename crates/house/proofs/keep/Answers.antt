@@ -1,13 +1,10 @@
 use borrow.Author.Rules.{rules}
 use native.Mathlib.Omega.{arith}
-use Prim.Native.Nat.{◌-◌, ◌≤◌, ◌<◌}
-use mathlib.Core.Logic.{⊎_elim}
+use Prim.Native.Nat.{◌≤◌, ◌<◌}
 use mathlib.Core.Path.{ap, ◌∙◌}
 use lib.ListN.{length}
-use Rattle.house.proofs.Columns.{Column, column_start, column_skip, column_keep, column_end}
-use Rattle.house.proofs.Repeating.{rest, rest_start, rest_end, rest_drop, rest_keep}
-use Rattle.house.specs.File.{quotes}
-use Rattle.house.specs.Repeats.{kept}
+use Rattle.house.proofs.Columns.{column_start, column_skip, column_keep, column_end}
+use Rattle.house.proofs.Repeating.{rest_start, rest_end, rest_drop, rest_keep}
 use Rattle.house.specs.Check.{k_of, w_of, weight_of}
 use Rattle.house.proofs.keep.Goals as goal
 use Rattle.house.proofs.keep.Goals.{then-not-repeated, else-not-repeated}
@@ -26,23 +23,24 @@ loop-i-preserved c = let a = c.args in
     let hw : old.m < length old.w = omega arith in
     let hz : old.m < length old.weight = omega arith in
     elim c.if-not-repeated.branch [
-      then-not-repeated w ↦
-    let e = rest_keep a.s.now a.n old.i c.repeated.result more is w.if-not-repeated.true-raw in
-    let q = w.quote_at-q.ensures in (
-      search rules,
-      omega (arith, w.m-is),
-      column_keep k_of _ _ _ _ _ old.m _ _ old.k _ hk e (w.f64_of.ensures ∙ ap k_of q) w.k-is w.m-is old.invariant.2,
-      column_keep w_of _ _ _ _ _ old.m _ _ old.w _ hw e (w.f64_of-then-not-repeated.ensures ∙ ap w_of q) w.w-is w.m-is old.invariant.3,
-      column_keep weight_of _ _ _ _ _ old.m _ _ old.weight _ hz e (w.f64_of-then-not-repeated-2.ensures ∙ ap weight_of q) w.weight-is w.m-is old.invariant.4,
-    )
-    | else-not-repeated w ↦
-    let e = rest_drop a.s.now a.n old.i c.repeated.result more is w.if-not-repeated.false-raw in (
-      search rules,
-      omega (arith, w.m-is),
-      column_skip k_of _ _ _ old.m _ _ old.k _ e w.k-is w.m-is old.invariant.2,
-      column_skip w_of _ _ _ old.m _ _ old.w _ e w.w-is w.m-is old.invariant.3,
-      column_skip weight_of _ _ _ old.m _ _ old.weight _ e w.weight-is w.m-is old.invariant.4,
-    ) ]
+      | then-not-repeated w ↦
+          let e = rest_keep a.s.now a.n old.i c.repeated.result more is w.if-not-repeated.true-raw in
+          let q = w.quote_at-q.ensures in (
+            search rules,
+            omega (arith, w.m-is),
+            column_keep k_of _ _ _ _ _ old.m _ _ old.k _ hk e (w.f64_of.ensures ∙ ap k_of q) w.k-is w.m-is old.invariant.2,
+            column_keep w_of _ _ _ _ _ old.m _ _ old.w _ hw e (w.f64_of-then-not-repeated.ensures ∙ ap w_of q) w.w-is w.m-is old.invariant.3,
+            column_keep weight_of _ _ _ _ _ old.m _ _ old.weight _ hz e (w.f64_of-then-not-repeated-2.ensures ∙ ap weight_of q) w.weight-is w.m-is old.invariant.4,
+          )
+      | else-not-repeated w ↦
+          let e = rest_drop a.s.now a.n old.i c.repeated.result more is w.if-not-repeated.false-raw in (
+            search rules,
+            omega (arith, w.m-is),
+            column_skip k_of _ _ _ old.m _ _ old.k _ e w.k-is w.m-is old.invariant.2,
+            column_skip w_of _ _ _ old.m _ _ old.w _ e w.w-is w.m-is old.invariant.3,
+            column_skip weight_of _ _ _ old.m _ _ old.weight _ e w.weight-is w.m-is old.invariant.4,
+          )
+    ]
 
 pub returns : goal.returns
 returns c = let a = c.args in

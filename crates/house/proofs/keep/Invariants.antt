@@ -1,12 +1,7 @@
 -- `house::keep` meets its contract. Assumes nothing.
-use borrow.Author.Rules.{rules}
-use native.Mathlib.Omega.{arith}
-use Prim.Native.Nat.{◌-◌, ◌≤◌, ◌<◌}
-use mathlib.Core.Logic.{⊎_elim}
-use mathlib.Core.Path.{ap, ◌∙◌}
-use lib.ListN.{length}
-use Rattle.house.proofs.Columns.{Column, column_start, column_skip, column_keep, column_end}
-use Rattle.house.proofs.Repeating.{rest, rest_start, rest_end, rest_drop, rest_keep}
+use Prim.Native.Nat.{◌-◌, ◌≤◌}
+use Rattle.house.proofs.Columns.{Column}
+use Rattle.house.proofs.Repeating.{rest}
 use Rattle.house.specs.File.{quotes}
 use Rattle.house.specs.Repeats.{kept}
 use Rattle.house.specs.Check.{k_of, w_of, weight_of}

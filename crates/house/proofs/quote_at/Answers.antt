@@ -1,5 +1,4 @@
 -- `house::quote_at` meets its contract. Assumes nothing.
-use borrow.Author.Rules.{rules}
 use Rattle.house.specs.File.{quote_at}
 use Rattle.house.proofs.quote_at.Goals as goal
 

@@ -1,6 +1,5 @@
 -- `house::quote_passes` meets its contract. Assumes nothing.
 use mathlib.Core.Path.{◌∙◌}
-use borrow.Author.Rules.{rules}
 use Rattle.house.specs.Check.{quote_passes}
 use Rattle.house.proofs.quote_passes.Goals as goal
 

@@ -1,12 +1,9 @@
 -- `house::repeated` meets its contract. Assumes nothing.
-use borrow.Author.Rules.{rules}
 use Prim.Native.Nat.{◌+◌, ◌*◌, ◌≤◌}
-use mathlib.Core.Path.{◌≡◌, ap, ◌∙◌}
+use mathlib.Core.Path.{◌≡◌}
 use lib.ListN.{length}
-use Rattle.house.specs.declared.Quote.{Quote}
 use Rattle.house.specs.File.{quotes}
 use Rattle.house.specs.Repeats.{among}
-use Rattle.house.proofs.Repeating.{hit, miss, nowhere}
 use Rattle.house.proofs.repeated.Given as goal
 
 abbrev pub invariant-loop-left : goal.invariant-loop-left

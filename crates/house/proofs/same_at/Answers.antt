@@ -1,5 +1,4 @@
 -- `house::same_at` meets its contract. Assumes nothing.
-use borrow.Author.Rules.{rules}
 use Rattle.house.proofs.Repeating.{same_no, same_yes}
 use Rattle.house.proofs.same_at.Goals as goal
 

@@ -1,5 +1,4 @@
 -- `house::settings_at` meets its contract. Assumes nothing.
-use borrow.Author.Rules.{rules}
 use Rattle.house.specs.File.{settings_at, f64_at}
 use Rattle.house.proofs.settings_at.Goals as goal
 

@@ -3,7 +3,6 @@ use mathlib.Core.Path.{refl, ap, ◌∙◌}
 use mathlib.Core.List.{[]}
 use lib.ListN.{length}
 use native.Mathlib.Omega.{arith}
-use borrow.Author.Rules.{rules}
 use Rattle.laws.proofs.Choices.{stops, goes}
 use Rattle.house.specs.Check.{k_of, w_of, weight_of}
 use Rattle.house.proofs.Taking.{taken_is, column_none, column_took, columns_room}

@@ -1,5 +1,4 @@
 -- `house::tau_of` meets its contract. Assumes nothing.
-use borrow.Author.Rules.{rules}
 use Rattle.house.specs.File.{tau_of}
 use Rattle.house.proofs.tau_of.Goals as goal
 

@@ -1,6 +1,4 @@
-use Rattle.std.proofs.Common.{◌≡◌, ◌-◌, length, refl, arith}
-use Rattle.laws.specs.Loop.{for}
-use Rattle.laws.specs.Floats.{at, max_of}
+use Rattle.std.proofs.Common.{refl}
 use Rattle.laws.proofs.Loops.{again, ended}
 use Rattle.judge.specs.Judge.{highest_of}
 use Rattle.judge.proofs.highest.Goals as goal

@@ -1,8 +1,7 @@
 -- `judge::highest` meets its contract. Assumes nothing.
-use Rattle.std.proofs.Common.{◌≡◌, ◌-◌, length, refl, arith}
+use Rattle.std.proofs.Common.{◌≡◌, ◌-◌, length}
 use Rattle.laws.specs.Loop.{for}
 use Rattle.laws.specs.Floats.{at, max_of}
-use Rattle.laws.proofs.Loops.{again, ended}
 use Rattle.judge.specs.Judge.{highest_of}
 use Rattle.judge.proofs.highest.Given as goal
 

@@ -1,5 +1,5 @@
 -- `judge::reading_at` meets its contract. Assumes nothing.
-use Rattle.std.proofs.Common.{sym, ap, ◌∙◌, rules}
+use Rattle.std.proofs.Common.{sym, ap, ◌∙◌}
 use Rattle.judge.specs.Judge.{reading_of}
 use Rattle.judge.proofs.reading_at.Goals as goal
 

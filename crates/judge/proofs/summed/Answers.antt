@@ -1,9 +1,8 @@
-use Rattle.std.proofs.Common.{◌≡◌, ◌-◌, length, refl, ap, ◌∙◌, arith}
-use Rattle.laws.specs.Loop.{for}
+use Rattle.std.proofs.Common.{refl, ap, ◌∙◌}
 use Rattle.laws.specs.Floats.{at}
 use Rattle.laws.proofs.Loops.{again, ended}
 use Rattle.judge.specs.declared.Residual.{Residual}
-use Rattle.judge.specs.Judge.{residual_at, added_to, sums_of}
+use Rattle.judge.specs.Judge.{added_to, sums_of}
 use Rattle.judge.proofs.summed.Goals as goal
 
 pub loop-i-init : goal.loop-i-init

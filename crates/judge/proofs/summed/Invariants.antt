@@ -1,9 +1,7 @@
 -- `judge::summed` meets its contract. Assumes nothing.
-use Rattle.std.proofs.Common.{◌≡◌, ◌-◌, length, refl, ap, ◌∙◌, arith}
+use Rattle.std.proofs.Common.{◌≡◌, ◌-◌, length}
 use Rattle.laws.specs.Loop.{for}
 use Rattle.laws.specs.Floats.{at}
-use Rattle.laws.proofs.Loops.{again, ended}
-use Rattle.judge.specs.declared.Residual.{Residual}
 use Rattle.judge.specs.Judge.{residual_at, added_to, sums_of}
 use Rattle.judge.proofs.summed.Given as goal
 

@@ -1,5 +1,4 @@
 -- `moves::recentre` meets its contract. Assumes nothing.
-use Rattle.std.proofs.Common.{arith}
 use Rattle.moves.proofs.Windows.{recentred_is}
 use Rattle.moves.proofs.recentre.Goals as goal
 

@@ -1,5 +1,4 @@
 -- `moves::shrink` meets its contract. Assumes nothing.
-use Rattle.std.proofs.Common.{arith}
 use Rattle.moves.proofs.Windows.{shrunk_is}
 use Rattle.moves.proofs.shrink.Goals as goal
 

@@ -1,7 +1,6 @@
 -- `outcome::fitted` meets its contract. Assumes nothing.
 use native.Mathlib.Omega.{arith}
 use lib.ListN.{length-take}
-use borrow.Author.Rules.{rules}
 use Rattle.outcome.proofs.fitted.Goals as goal
 
 pub slice_bounds-fit_slice-end : goal.slice_bounds-fit_slice-end

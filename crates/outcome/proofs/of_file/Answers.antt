@@ -2,7 +2,6 @@
 use mathlib.Core.Path.{◌≡◌, sym, ◌∙◌}
 use Prim.Native.Nat.{ℕ}
 use native.Mathlib.Omega.{arith}
-use borrow.Author.Rules.{rules}
 use Rattle.house.proofs.Files.{file_is}
 use Rattle.outcome.proofs.Coming.{none_written, malformed_is, part_is, of_the_file}
 use Rattle.outcome.proofs.of_file.Goals as goal

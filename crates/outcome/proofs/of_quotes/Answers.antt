@@ -2,7 +2,6 @@
 use mathlib.Core.Path.{◌≡◌, refl}
 use Prim.Native.Nat.{ℕ}
 use native.Mathlib.Omega.{arith}
-use borrow.Author.Rules.{rules}
 use Rattle.laws.proofs.Choices.{number_stops, number_goes}
 use Rattle.outcome.specs.Outcome.{bytes_outcome}
 use Rattle.outcome.proofs.Coming.{none_written}

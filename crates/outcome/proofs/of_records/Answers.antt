@@ -3,7 +3,6 @@ use mathlib.Core.Path.{sym, ap, ◌∙◌}
 use mathlib.Core.List.{List, map}
 use lib.ListN.{length, replicate}
 use lib.Ieee.{Float}
-use borrow.Author.Rules.{rules}
 use Rattle.laws.specs.Floats.{+0}
 use Rattle.house.specs.Check.{k_of, w_of, weight_of}
 use Rattle.house.specs.File.{records_of}

@@ -1,6 +1,5 @@
 -- `point::check_point` meets its contract. Assumes nothing.
 use Rattle.point.specs.Point.{point_number}
-use borrow.Author.Rules.{rules}
 use Rattle.point.proofs.check_point.Goals as goal
 
 pub returns : goal.returns

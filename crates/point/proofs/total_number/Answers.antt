@@ -2,7 +2,6 @@
 use Rattle.point.specs.Point.{total_number}
 use Rattle.laws.proofs.Choices.{if_true, if_false}
 use mathlib.Core.Path.{refl}
-use borrow.Author.Rules.{rules}
 use Rattle.point.proofs.total_number.Goals as goal
 
 pub returns-then-level : goal.returns-then-level

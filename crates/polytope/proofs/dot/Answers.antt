@@ -1,7 +1,6 @@
 -- `polytope::dot` meets its contract. Assumes nothing.
 use mathlib.Core.Path.{refl}
 use borrow.Author.Tests.{lt-ltb, le-ltb}
-use borrow.Author.Rules.{rules}
 use Rattle.laws.proofs.Choices.{if_true, if_false}
 use Rattle.laws.proofs.Floats.{div_zeros}
 use Rattle.polytope.specs.Polytope.{dot_of}

@@ -1,15 +1,10 @@
-use mathlib.Core.Path.{◌≡◌, refl, sym, ap, ◌∙◌}
-use mathlib.Core.Bool.{true, ◌&&◌}
+use mathlib.Core.Path.{refl, sym, ap, ◌∙◌}
 use mathlib.Core.List.{List}
-use Prim.Native.Nat.{◌-◌}
-use native.Mathlib.Omega.{arith}
 use lib.Ieee.{Float, le}
 use borrow.Author.Tests.{not-true, not-false}
-use borrow.Author.Rules.{rules}
-use Rattle.laws.specs.Loop.{for}
 use Rattle.laws.specs.Floats.{◌-f◌, at}
 use Rattle.laws.proofs.Loops.{again, ended, halted}
-use Rattle.polytope.specs.Polytope.{rows_of, dot_of, feasible_of}
+use Rattle.polytope.specs.Polytope.{dot_of, feasible_of}
 use Rattle.polytope.proofs.feasible.Goals as goal
 
 pub loop-c-init : goal.loop-c-init

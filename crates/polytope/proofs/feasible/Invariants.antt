@@ -1,15 +1,10 @@
 -- `polytope::feasible` meets its contract. Assumes nothing.
-use mathlib.Core.Path.{◌≡◌, refl, sym, ap, ◌∙◌}
+use mathlib.Core.Path.{◌≡◌}
 use mathlib.Core.Bool.{true, ◌&&◌}
-use mathlib.Core.List.{List}
 use Prim.Native.Nat.{◌-◌}
-use native.Mathlib.Omega.{arith}
-use lib.Ieee.{Float, le}
-use borrow.Author.Tests.{not-true, not-false}
-use borrow.Author.Rules.{rules}
+use lib.Ieee.{le}
 use Rattle.laws.specs.Loop.{for}
 use Rattle.laws.specs.Floats.{◌-f◌, at}
-use Rattle.laws.proofs.Loops.{again, ended, halted}
 use Rattle.polytope.specs.Polytope.{rows_of, dot_of, feasible_of}
 use Rattle.polytope.proofs.feasible.Given as goal
 

@@ -1,9 +1,5 @@
-use mathlib.Core.Path.{◌≡◌, refl, ap, ◌∙◌}
-use Prim.Native.Nat.{◌-◌}
-use native.Mathlib.Omega.{arith}
-use borrow.Author.Rules.{rules}
-use Rattle.laws.specs.Loop.{for}
-use Rattle.laws.specs.Floats.{at, abs_of, max_of}
+use mathlib.Core.Path.{refl, ap, ◌∙◌}
+use Rattle.laws.specs.Floats.{max_of}
 use Rattle.laws.proofs.Loops.{again, ended}
 use Rattle.polytope.specs.Polytope.{spread_of}
 use Rattle.polytope.proofs.spread.Goals as goal

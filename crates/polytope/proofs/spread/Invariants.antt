@@ -1,11 +1,8 @@
 -- `polytope::spread` meets its contract. Assumes nothing.
-use mathlib.Core.Path.{◌≡◌, refl, ap, ◌∙◌}
+use mathlib.Core.Path.{◌≡◌}
 use Prim.Native.Nat.{◌-◌}
-use native.Mathlib.Omega.{arith}
-use borrow.Author.Rules.{rules}
 use Rattle.laws.specs.Loop.{for}
 use Rattle.laws.specs.Floats.{at, abs_of, max_of}
-use Rattle.laws.proofs.Loops.{again, ended}
 use Rattle.polytope.specs.Polytope.{spread_of}
 use Rattle.polytope.proofs.spread.Given as goal
 

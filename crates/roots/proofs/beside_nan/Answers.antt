@@ -7,8 +7,6 @@ use Rattle.laws.proofs.Floats.{self_same, div_zeros}
 use Rattle.laws.proofs.Values.{value, infinite, div_one_zero}
 use Rattle.roots.specs.Hypot.{hypot_of}
 use Rattle.roots.proofs.AtPatterns.{nan_nan, inf_right, nan_value}
-use Rattle.roots.proofs.beside_nan.Reads as reads
-use Rattle.roots.proofs.beside_nan.Lts as lts
 use Rattle.roots.proofs.beside_nan.Goals as goal
 
 pub returns-then-y : goal.returns-then-y

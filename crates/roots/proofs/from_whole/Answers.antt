@@ -2,11 +2,6 @@
 use mathlib.Core.Logic.{inl}
 use native.Mathlib.Omega.{arith}
 use Rattle.roots.proofs.Half.{one_or_two, half_between, half_low, half_high}
-use borrow.Author.Rules.{rules}
-use Rattle.roots.proofs.from_whole.Reads as reads
-use Rattle.roots.proofs.from_whole.Lts as lts
-use Rattle.roots.proofs.pattern.place.Reads as place-reads
-use Rattle.roots.proofs.whole.wide_root.Reads as wide-root-reads
 use Rattle.roots.proofs.from_whole.Goals as goal
 
 pub overflow_mul-m : goal.overflow_mul-m

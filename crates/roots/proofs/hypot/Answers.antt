@@ -8,13 +8,6 @@ use Rattle.laws.proofs.Patterns.{below_nan}
 use Rattle.laws.proofs.Values.{value, infinite, div_one_zero}
 use Rattle.roots.specs.Hypot.{hypot_of}
 use Rattle.roots.proofs.AtPatterns.{nan_right, inf_left, inf_right, both, in_order, sides}
-use borrow.Author.Rules.{rules}
-use Rattle.roots.proofs.hypot.Reads as reads
-use Rattle.roots.proofs.hypot.Lts as lts
-use Rattle.roots.proofs.beside_nan.Reads as beside-nan-reads
-use Rattle.roots.proofs.hypot_bits.Reads as hypot-bits-reads
-use Rattle.roots.proofs.pattern.greatest.Reads as greatest-reads
-use Rattle.roots.proofs.pattern.least.Reads as least-reads
 use Rattle.roots.proofs.hypot.Goals as goal
 
 pub returns-then-x : goal.returns-then-x

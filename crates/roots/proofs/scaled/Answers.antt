@@ -1,12 +1,6 @@
 -- `roots::scaled` meets its contract. Assumes nothing.
 use native.Mathlib.Omega.{arith}
 use Rattle.roots.proofs.Half.{one_or_two, half_around}
-use borrow.Author.Rules.{rules}
-use Rattle.roots.proofs.scaled.Reads as reads
-use Rattle.roots.proofs.scaled.Lts as lts
-use Rattle.roots.proofs.from_whole.Reads as from-whole-reads
-use Rattle.roots.proofs.near.near_digits.Reads as near-digits-reads
-use Rattle.roots.proofs.near.within.Reads as within-reads
 use Rattle.roots.proofs.scaled.Goals as goal
 
 pub from_whole-requires : goal.from_whole-requires

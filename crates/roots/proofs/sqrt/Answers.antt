@@ -10,13 +10,6 @@ use Rattle.laws.proofs.Floats.{self_same, div_zeros}
 use Rattle.laws.proofs.Patterns.{Parted, parted_at, mant_pos, low_expo, expo_le, below_nan}
 use Rattle.roots.specs.Root.{root_of}
 use Rattle.roots.proofs.AtPatterns.{root_nan, at_zero, at_negative, at_infinity, root_at}
-use borrow.Author.Rules.{rules}
-use Rattle.roots.proofs.sqrt.Reads as reads
-use Rattle.roots.proofs.sqrt.Lts as lts
-use Rattle.roots.proofs.pattern.parts_of.Reads as parts-of-reads
-use Rattle.roots.proofs.from_whole.Reads as from-whole-reads
-use Rattle.roots.proofs.scaled.Reads as scaled-reads
-use Rattle.roots.proofs.pattern.shift_up.Reads as shift-up-reads
 use Rattle.roots.proofs.sqrt.Goals as goal
 
 pub returns-then-x : goal.returns-then-x

@@ -1,6 +1,5 @@
 -- `run::run` meets its contract. Assumes nothing.
 use native.Mathlib.Omega.{arith}
-use borrow.Author.Rules.{rules}
 use Rattle.outcome.proofs.Fits.{file_counts}
 use Rattle.outcome.proofs.Fronts.{written_front, written_long}
 use Rattle.text.specs.Place.{longest}

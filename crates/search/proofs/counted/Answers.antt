@@ -1,7 +1,6 @@
 -- `search::counted` meets its contract. Assumes nothing.
 use Rattle.search.specs.Search.{counted_of}
 use mathlib.Core.Path.{refl}
-use borrow.Author.Rules.{rules}
 use Rattle.search.proofs.counted.Goals as goal
 
 pub returns : goal.returns

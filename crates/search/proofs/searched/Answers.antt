@@ -1,5 +1,4 @@
 use mathlib.Core.Path.{◌≡◌, sym, ap, ◌∙◌}
-use Prim.Native.Nat.{◌-◌, ◌≤◌}
 use borrow.Author.Tests.{not-true, not-false}
 use Rattle.search.specs.Search.{after_passes, limit_of}
 use Rattle.search.specs.Run.{fit_cell}

@@ -1,13 +1,8 @@
 -- `search::searched` meets its contract. Assumes nothing.
-use mathlib.Core.Path.{◌≡◌, sym, ap, ◌∙◌}
+use mathlib.Core.Path.{◌≡◌}
 use Prim.Native.Nat.{◌-◌, ◌≤◌}
-use borrow.Author.Tests.{not-true, not-false}
 use Rattle.search.specs.Search.{after_passes, limit_of}
 use Rattle.search.specs.Run.{fit_cell}
-use Rattle.search.proofs.Trail.{after_start, ended_early, stepped}
-use Rattle.search.proofs.SearchCounts.{sizes_are, roomy}
-use Rattle.search.proofs.FitCells.{fit_most, fit_few}
-use native.Mathlib.Omega.{arith}
 use Rattle.search.proofs.searched.Given as goal
 
 abbrev pub invariant-loop-t : goal.invariant-loop-t

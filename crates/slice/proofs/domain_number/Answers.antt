@@ -4,7 +4,6 @@ use mathlib.Core.Path.{refl}
 use lib.Ieee.{lt}
 use Rattle.laws.specs.Floats.{one}
 use Rattle.slice.specs.Slice.{domain_number, lee_bound}
-use borrow.Author.Rules.{rules}
 use Rattle.slice.proofs.domain_number.Goals as goal
 
 -- the tests that are left behind, from the first to the fifth

@@ -2,7 +2,6 @@
 use Rattle.laws.proofs.Choices.{if_true, if_false}
 use mathlib.Core.Path.{refl, ◌∙◌, sym, ap}
 use Rattle.slice.specs.Slice.{eval_raw, judged_of}
-use borrow.Author.Rules.{rules}
 use Rattle.slice.proofs.eval_tested.Goals as goal
 
 pub returns-then-good : goal.returns-then-good

@@ -3,7 +3,6 @@ use Rattle.laws.proofs.Choices.{if_true, if_false}
 use mathlib.Core.Path.{refl, ◌∙◌, sym}
 use borrow.Author.Tests.{not-true, not-false}
 use Rattle.slice.specs.Slice.{judged_of}
-use borrow.Author.Rules.{rules}
 use Rattle.slice.proofs.judged.Goals as goal
 
 pub returns-then-not-good : goal.returns-then-not-good

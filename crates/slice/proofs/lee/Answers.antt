@@ -1,6 +1,5 @@
 -- `slice::lee` meets its contract. Assumes nothing.
 use Rattle.slice.specs.Slice.{lee_of}
-use borrow.Author.Rules.{rules}
 use Rattle.slice.proofs.lee.Goals as goal
 
 pub returns : goal.returns

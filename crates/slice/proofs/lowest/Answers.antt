@@ -1,6 +1,5 @@
 -- `slice::lowest` meets its contract. Assumes nothing.
 use Rattle.slice.specs.Slice.{lowest_of}
-use borrow.Author.Rules.{rules}
 use Rattle.slice.proofs.lowest.Goals as goal
 
 pub returns : goal.returns

@@ -3,7 +3,6 @@ use Rattle.laws.proofs.Choices.{if_true, if_false, number_goes, number_no}
 use mathlib.Core.Path.{refl}
 use Prim.Native.Nat.{ℕ}
 use Rattle.slice.specs.Slice.{number_of}
-use borrow.Author.Rules.{rules}
 use Rattle.slice.proofs.number.Goals as goal
 
 pub returns-then-bad-ne0 : goal.returns-then-bad-ne0

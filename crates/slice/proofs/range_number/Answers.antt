@@ -1,6 +1,5 @@
 -- `slice::range_number` meets its contract. Assumes nothing.
 use Rattle.slice.specs.Slice.{range_number}
-use borrow.Author.Rules.{rules}
 use Rattle.slice.proofs.range_number.Goals as goal
 
 pub returns : goal.returns

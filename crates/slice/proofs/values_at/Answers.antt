@@ -1,6 +1,5 @@
 -- `slice::values_at` meets its contract. Assumes nothing.
 use Rattle.slice.specs.Slice.{values_of, values_at}
-use borrow.Author.Rules.{rules}
 use Rattle.slice.proofs.values_at.Goals as goal
 
 pub returns : goal.returns

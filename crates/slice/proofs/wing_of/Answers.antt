@@ -1,7 +1,6 @@
 -- `slice::wing_of` meets its contract. Assumes nothing.
 use Rattle.laws.proofs.Choices.{if_true, if_false}
 use Rattle.slice.specs.Slice.{wing_of}
-use borrow.Author.Rules.{rules}
 use Rattle.slice.proofs.wing_of.Goals as goal
 
 pub returns-then-s-x : goal.returns-then-s-x

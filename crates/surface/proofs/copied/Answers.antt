@@ -13,6 +13,8 @@ pub loop-i-preserved : goal.loop-i-preserved
 loop-i-preserved c =
     let s = c.args.s.now in
     let i = c.loop-i.i in
-    let within = c.loop-i-test.true in
-    (omega arith, c.push-run.ensures ∙ ap (λ (r : Run). pushed r (get_or s i past)) c.loop-i.invariant.1
-    ∙ ap (λ (x : SviSlice). pushed (run_of (take i s)) x) (get_or_default s i past no_slice within) ∙ push_next s i within)
+    let within = c.loop-i-test.true in (
+      omega arith,
+      c.push-run.ensures ∙ ap (λ (r : Run). pushed r (get_or s i past)) c.loop-i.invariant.1
+          ∙ ap (λ (x : SviSlice). pushed (run_of (take i s)) x) (get_or_default s i past no_slice within) ∙ push_next s i within,
+    )

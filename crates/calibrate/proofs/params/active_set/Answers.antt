@@ -1,14 +1,10 @@
-use mathlib.Core.Path.{◌≡◌, refl, ap}
-use Prim.Native.Nat.{◌-◌}
-use Rattle.laws.specs.Loop.{for}
+use mathlib.Core.Path.{refl, ap}
 use Rattle.laws.specs.Floats.{at, ◌-f◌}
 use Rattle.laws.proofs.Loops.{again, ended}
 use mathlib.Core.Bool.{false, ◌||◌}
 use lib.ListN.{get_or, set}
 use lib.Ieee.{Float, le}
-use Rattle.polytope.specs.Polytope.{dot_of}
 use Rattle.calibrate.specs.End.{active_of}
-use native.Mathlib.Omega.{arith}
 use Rattle.calibrate.proofs.params.active_set.Goals as goal
 
 pub loop-i-init : goal.loop-i-init

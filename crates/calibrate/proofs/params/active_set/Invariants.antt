@@ -1,15 +1,13 @@
 -- `calibrate::params::active_set` meets its contract. Assumes nothing.
-use mathlib.Core.Path.{◌≡◌, refl, ap}
+use mathlib.Core.Path.{◌≡◌}
 use Prim.Native.Nat.{◌-◌}
 use Rattle.laws.specs.Loop.{for}
 use Rattle.laws.specs.Floats.{at, ◌-f◌}
-use Rattle.laws.proofs.Loops.{again, ended}
 use mathlib.Core.Bool.{false, ◌||◌}
 use lib.ListN.{get_or, set}
-use lib.Ieee.{Float, le}
+use lib.Ieee.{le}
 use Rattle.polytope.specs.Polytope.{dot_of}
 use Rattle.calibrate.specs.End.{active_of}
-use native.Mathlib.Omega.{arith}
 use Rattle.calibrate.proofs.params.active_set.Given as goal
 
 abbrev pub invariant-loop-i : goal.invariant-loop-i

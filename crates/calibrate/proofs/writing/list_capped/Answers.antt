@@ -1,8 +1,4 @@
-use mathlib.Core.Logic.{⊎_elim}
-use Prim.Native.Nat.{◌-◌}
-use lib.ListN.{length}
-use Rattle.calibrate.proofs.Listing.{Listed, listed_start, listed_yes, listed_no, listed_end}
-use native.Mathlib.Omega.{arith}
+use Rattle.calibrate.proofs.Listing.{listed_start, listed_yes, listed_no, listed_end}
 use Rattle.calibrate.proofs.writing.list_capped.Goals as goal
 use Rattle.calibrate.proofs.writing.list_capped.Goals.{then-ws-i, else-ws-i}
 
@@ -14,8 +10,8 @@ loop-i-preserved c = let l = c.loop-i in
     let a = c.args in
     let t = c.loop-i-test.true in
     elim c.if-ws-i.branch [
-      then-ws-i w ↦ rw (w.out-is, w.n-is) (listed_yes a.cap a.ws.now l.i l.n a.out.now l.out t c.requires w.if-ws-i.true l.invariant)
-    | else-ws-i w ↦ rw (w.out-is, w.n-is) (listed_no a.cap a.ws.now l.i l.n a.out.now l.out t w.if-ws-i.false l.invariant)
+      | then-ws-i w ↦ rw (w.out-is, w.n-is) (listed_yes a.cap a.ws.now l.i l.n a.out.now l.out t c.requires w.if-ws-i.true l.invariant)
+      | else-ws-i w ↦ rw (w.out-is, w.n-is) (listed_no a.cap a.ws.now l.i l.n a.out.now l.out t w.if-ws-i.false l.invariant)
     ]
 
 pub shape_of-out : goal.shape_of-out

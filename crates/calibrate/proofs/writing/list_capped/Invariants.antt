@@ -1,9 +1,7 @@
 -- `calibrate::writing::list_capped` meets its contract. Assumes nothing.
-use mathlib.Core.Logic.{⊎_elim}
 use Prim.Native.Nat.{◌-◌}
 use lib.ListN.{length}
-use Rattle.calibrate.proofs.Listing.{Listed, listed_start, listed_yes, listed_no, listed_end}
-use native.Mathlib.Omega.{arith}
+use Rattle.calibrate.proofs.Listing.{Listed}
 use Rattle.calibrate.proofs.writing.list_capped.Given as goal
 
 abbrev pub invariant-loop-i : goal.invariant-loop-i

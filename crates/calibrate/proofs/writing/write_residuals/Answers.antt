@@ -1,6 +1,5 @@
-use Prim.Native.Nat.{◌-◌}
-use lib.ListN.{length, length-set}
-use Rattle.calibrate.proofs.Quads.{Rows, rows_start, rows_next, rows_end}
+use lib.ListN.{length-set}
+use Rattle.calibrate.proofs.Quads.{rows_start, rows_next, rows_end}
 use native.Mathlib.Omega.{arith}
 use Rattle.calibrate.proofs.writing.write_residuals.Goals as goal
 

@@ -1,8 +1,7 @@
 -- `calibrate::writing::write_residuals` meets its contract. Assumes nothing.
 use Prim.Native.Nat.{◌-◌}
-use lib.ListN.{length, length-set}
-use Rattle.calibrate.proofs.Quads.{Rows, rows_start, rows_next, rows_end}
-use native.Mathlib.Omega.{arith}
+use lib.ListN.{length}
+use Rattle.calibrate.proofs.Quads.{Rows}
 use Rattle.calibrate.proofs.writing.write_residuals.Given as goal
 
 abbrev pub invariant-loop-i : goal.invariant-loop-i

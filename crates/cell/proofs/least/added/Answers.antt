@@ -1,5 +1,4 @@
 -- `cell::least::added` meets its contract. Assumes nothing.
-use borrow.Author.Rules.{rules}
 use Rattle.cell.specs.Least.{with_observation}
 use Rattle.cell.proofs.least.added.Goals as goal
 

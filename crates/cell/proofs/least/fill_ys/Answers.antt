@@ -1,8 +1,4 @@
-use mathlib.Core.Path.{◌≡◌, refl}
-use Prim.Native.Nat.{◌-◌}
-use native.Mathlib.Omega.{arith}
-use lib.ListN.{set, length}
-use Rattle.laws.specs.Loop.{for}
+use mathlib.Core.Path.{refl}
 use Rattle.laws.proofs.Loops.{again, ended}
 use Rattle.laws.specs.Room.{filled_on}
 use Rattle.cell.specs.Least.{y_of}

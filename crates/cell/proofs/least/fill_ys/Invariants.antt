@@ -1,10 +1,8 @@
 -- `cell::least::fill_ys` meets its contract. Assumes nothing.
-use mathlib.Core.Path.{◌≡◌, refl}
+use mathlib.Core.Path.{◌≡◌}
 use Prim.Native.Nat.{◌-◌}
-use native.Mathlib.Omega.{arith}
 use lib.ListN.{set, length}
 use Rattle.laws.specs.Loop.{for}
-use Rattle.laws.proofs.Loops.{again, ended}
 use Rattle.laws.specs.Room.{filled_on}
 use Rattle.cell.specs.Least.{y_of}
 use Rattle.cell.proofs.least.fill_ys.Given as goal

@@ -1,5 +1,4 @@
 -- `cell::least::lines` meets its contract. Assumes nothing.
-use borrow.Author.Rules.{rules}
 use Rattle.cell.proofs.least.lines.Goals as goal
 
 pub returns : goal.returns

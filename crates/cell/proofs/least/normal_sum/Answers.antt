@@ -1,12 +1,6 @@
-use mathlib.Core.Path.{◌≡◌, refl}
-use Prim.Native.Nat.{◌-◌}
-use native.Mathlib.Omega.{arith}
-use lib.ListN.{length}
-use borrow.Author.Rules.{rules}
-use Rattle.laws.specs.Loop.{for}
-use Rattle.laws.specs.Floats.{at}
+use mathlib.Core.Path.{refl}
 use Rattle.laws.proofs.Loops.{again, ended}
-use Rattle.cell.specs.Least.{with_observation, normal_equations}
+use Rattle.cell.specs.Least.{normal_equations}
 use Rattle.cell.proofs.least.normal_sum.Goals as goal
 
 pub loop-i-init : goal.loop-i-init

@@ -1,12 +1,9 @@
 -- `cell::least::normal_sum` meets its contract. Assumes nothing.
-use mathlib.Core.Path.{◌≡◌, refl}
+use mathlib.Core.Path.{◌≡◌}
 use Prim.Native.Nat.{◌-◌}
-use native.Mathlib.Omega.{arith}
 use lib.ListN.{length}
-use borrow.Author.Rules.{rules}
 use Rattle.laws.specs.Loop.{for}
 use Rattle.laws.specs.Floats.{at}
-use Rattle.laws.proofs.Loops.{again, ended}
 use Rattle.cell.specs.Least.{with_observation, normal_equations}
 use Rattle.cell.proofs.least.normal_sum.Given as goal
 

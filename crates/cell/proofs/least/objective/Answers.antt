@@ -1,11 +1,6 @@
-use mathlib.Core.Path.{◌≡◌, refl}
-use Prim.Native.Nat.{◌-◌}
-use native.Mathlib.Omega.{arith}
-use lib.ListN.{length}
-use Rattle.laws.specs.Loop.{for}
-use Rattle.laws.specs.Floats.{◌+f◌, ◌*f◌, at}
+use mathlib.Core.Path.{refl}
 use Rattle.laws.proofs.Loops.{again, ended}
-use Rattle.cell.specs.Least.{miss_of, objective_of, objective_at}
+use Rattle.cell.specs.Least.{objective_of}
 use Rattle.cell.proofs.least.objective.Goals as goal
 
 pub loop-i-init : goal.loop-i-init

@@ -1,12 +1,10 @@
 -- `cell::least::objective` meets its contract. Assumes nothing.
-use mathlib.Core.Path.{◌≡◌, refl}
+use mathlib.Core.Path.{◌≡◌}
 use Prim.Native.Nat.{◌-◌}
-use native.Mathlib.Omega.{arith}
 use lib.ListN.{length}
 use Rattle.laws.specs.Loop.{for}
 use Rattle.laws.specs.Floats.{◌+f◌, ◌*f◌, at}
-use Rattle.laws.proofs.Loops.{again, ended}
-use Rattle.cell.specs.Least.{miss_of, objective_of, objective_at}
+use Rattle.cell.specs.Least.{miss_of, objective_at}
 use Rattle.cell.proofs.least.objective.Given as goal
 
 abbrev pub invariant-loop-i : goal.invariant-loop-i

@@ -1,5 +1,4 @@
 -- `cell::scales::block_scale` meets its contract. Assumes nothing.
-use borrow.Author.Rules.{rules}
 use Rattle.solver.proofs.Steps.{zero_not_below}
 use Rattle.cell.proofs.Scaling.{block_is}
 use Rattle.cell.proofs.scales.block_scale.Goals as goal

@@ -1,5 +1,4 @@
 -- `cell::scales::line_scale` meets its contract. Assumes nothing.
-use borrow.Author.Rules.{rules}
 use Rattle.cell.proofs.Scaling.{line_is}
 use Rattle.cell.proofs.scales.line_scale.Goals as goal
 

@@ -3,7 +3,6 @@ use mathlib.Core.Path.{ap}
 use mathlib.Core.Bool.{Bool, ◌&&◌}
 use lib.Ieee.{lt}
 use Rattle.laws.specs.Floats.{+0}
-use borrow.Author.Rules.{rules}
 use Rattle.cell.proofs.scales.positive.Goals as goal
 
 pub returns : goal.returns

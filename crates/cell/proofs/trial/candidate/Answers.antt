@@ -3,7 +3,6 @@ use mathlib.Core.Path.{sym, ap, ◌∙◌}
 use mathlib.Core.Bool.{true, false}
 use mathlib.Core.List.{List}
 use lib.Ieee.{Float}
-use borrow.Author.Rules.{rules}
 use Rattle.solver.specs.declared.Solved.{Solved}
 use Rattle.polytope.specs.Polytope.{feasible_of}
 use Rattle.cell.specs.Cell.{widened}

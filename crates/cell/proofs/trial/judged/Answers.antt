@@ -2,7 +2,6 @@
 use mathlib.Core.Path.{refl, sym, ap, ◌∙◌}
 use mathlib.Core.Bool.{Bool, not, ◌&&◌, ◌||◌}
 use lib.Ieee.{lt}
-use borrow.Author.Rules.{rules}
 use Rattle.laws.proofs.Choices.{if_true, if_false}
 use Rattle.cell.proofs.Laws.{judge_is}
 use Rattle.cell.proofs.trial.judged.Goals as goal

@@ -1,6 +1,5 @@
 -- `cell::trial::kkt` meets its contract. Assumes nothing.
 use native.Mathlib.Omega.{arith}
-use borrow.Author.Rules.{rules}
 use Rattle.cell.proofs.Systems.{kkt_none, kkt_one, kkt_two, kkt_three}
 use Rattle.cell.proofs.trial.kkt.Goals as goal
 

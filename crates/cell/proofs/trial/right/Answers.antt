@@ -1,6 +1,5 @@
 -- `cell::trial::right` meets its contract. Assumes nothing.
 use native.Mathlib.Omega.{arith}
-use borrow.Author.Rules.{rules}
 use Rattle.cell.proofs.Systems.{rhs_none, rhs_one, rhs_two, rhs_three}
 use Rattle.cell.proofs.trial.right.Goals as goal
 

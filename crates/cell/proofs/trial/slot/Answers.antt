@@ -1,9 +1,4 @@
-use mathlib.Core.Path.{◌≡◌, refl}
-use Prim.Native.Nat.{◌+◌, ◌-◌, ◌*◌}
-use native.Mathlib.Omega.{arith}
-use lib.ListN.{set}
-use Rattle.laws.specs.Loop.{for}
-use Rattle.laws.specs.Floats.{at}
+use mathlib.Core.Path.{refl}
 use Rattle.laws.proofs.Loops.{again, ended}
 use Rattle.cell.specs.Cell.{slot_of}
 use Rattle.cell.proofs.trial.slot.Goals as goal

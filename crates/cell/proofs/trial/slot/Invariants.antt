@@ -1,11 +1,9 @@
 -- `cell::trial::slot` meets its contract. Assumes nothing.
-use mathlib.Core.Path.{◌≡◌, refl}
+use mathlib.Core.Path.{◌≡◌}
 use Prim.Native.Nat.{◌+◌, ◌-◌, ◌*◌}
-use native.Mathlib.Omega.{arith}
 use lib.ListN.{set}
 use Rattle.laws.specs.Loop.{for}
 use Rattle.laws.specs.Floats.{at}
-use Rattle.laws.proofs.Loops.{again, ended}
 use Rattle.cell.specs.Cell.{slot_of}
 use Rattle.cell.proofs.trial.slot.Given as goal
 

@@ -1,6 +1,5 @@
 -- `cell::trial::solution` meets its contract. Assumes nothing.
 use native.Mathlib.Omega.{arith}
-use borrow.Author.Rules.{rules}
 use Rattle.cell.proofs.Systems.{answers}
 use Rattle.cell.proofs.trial.solution.Goals as goal
 

@@ -1,6 +1,6 @@
 -- `moves::points::last_of` meets its contract. Assumes nothing.
 use Rattle.moves.specs.Axis.{last_of}
-use Rattle.std.proofs.Common.{arith, rules}
+use Rattle.std.proofs.Common.{arith}
 use Rattle.moves.proofs.points.last_of.Goals as goal
 
 pub returns-then-n-lt2 : goal.returns-then-n-lt2

@@ -3,7 +3,6 @@ use Rattle.laws.proofs.Choices.{number_goes, number_no}
 use mathlib.Core.Path.{refl}
 use Rattle.point.specs.Point.{total_of}
 use Rattle.point.specs.declared.Total.TheVariants as total
-use borrow.Author.Rules.{rules}
 use Rattle.point.proofs.TotalVariance.new.Goals as goal
 
 pub returns-then-n-eq0 : goal.returns-then-n-eq0

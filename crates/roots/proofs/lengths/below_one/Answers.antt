@@ -6,13 +6,6 @@ use Rattle.laws.proofs.Patterns.{Parted, parted_at, expo_mono}
 use Rattle.roots.specs.Root.{root_units}
 use Rattle.roots.proofs.AtPatterns.{one_parts}
 use Rattle.roots.proofs.Sides.{near_floor, sums, far}
-use borrow.Author.Rules.{rules}
-use Rattle.roots.proofs.lengths.below_one.Reads as reads
-use Rattle.roots.proofs.lengths.below_one.Lts as lts
-use Rattle.roots.proofs.hypot_bits.Reads as hypot-bits-reads
-use Rattle.roots.proofs.near.nearest_by_one.Reads as nearest-by-one-reads
-use Rattle.roots.proofs.pattern.parts_of.Reads as parts-of-reads
-use Rattle.roots.proofs.wide.joined.Reads as joined-reads
 use Rattle.roots.proofs.lengths.below_one.Goals as goal
 
 pub overflow_sub-d : goal.overflow_sub-d

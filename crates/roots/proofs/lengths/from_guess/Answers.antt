@@ -7,12 +7,6 @@ use Rattle.laws.proofs.Floats.{self_same}
 use Rattle.laws.proofs.Patterns.{below_nan}
 use Rattle.roots.specs.Root.{root_units}
 use Rattle.roots.proofs.AtPatterns.{beside_one}
-use borrow.Author.Rules.{rules}
-use Rattle.roots.proofs.lengths.from_guess.Reads as reads
-use Rattle.roots.proofs.lengths.from_guess.Lts as lts
-use Rattle.roots.proofs.hypot.Reads as hypot-reads
-use Rattle.roots.proofs.lengths.below_one.Reads as below-one-reads
-use Rattle.roots.proofs.lengths.from_one.Reads as from-one-reads
 use Rattle.roots.proofs.lengths.from_guess.Goals as goal
 
 pub float_to_bits-a : goal.float_to_bits-a

@@ -1,16 +1,7 @@
-use mathlib.Core.Path.{◌≡◌, refl, ap}
-use Prim.Native.Nat.{◌-◌}
-use native.Mathlib.Omega.{arith}
+use mathlib.Core.Path.{refl, ap}
 use lib.ListN.{set}
-use borrow.Author.Rules.{rules}
-use Rattle.laws.specs.Loop.{for}
-use Rattle.laws.specs.Floats.{one, at}
 use Rattle.laws.specs.Room.{filled_on}
 use Rattle.laws.proofs.Loops.{again, ended}
-use Rattle.roots.specs.Hypot.{hypot_of}
-use Rattle.roots.proofs.lengths.from_guesses.Reads as reads
-use Rattle.roots.proofs.lengths.from_guesses.Lts as lts
-use Rattle.roots.proofs.lengths.from_guess.Reads as from-guess-reads
 use Rattle.roots.proofs.lengths.from_guesses.Goals as goal
 
 pub loop-i-init : goal.loop-i-init

@@ -1,13 +1,5 @@
-use mathlib.Core.Path.{◌≡◌, refl, ◌∙◌}
-use Prim.Native.Nat.{ℕ, ◌-◌}
-use native.Mathlib.Omega.{arith}
-use lib.Ieee.{Float}
-use borrow.Author.Rules.{rules}
-use Rattle.laws.specs.Room.{filled_on}
+use mathlib.Core.Path.{refl, ◌∙◌}
 use Rattle.laws.proofs.Rooms.{filled_over}
-use Rattle.roots.proofs.lengths.guesses.Reads as reads
-use Rattle.roots.proofs.lengths.guesses.Lts as lts
-use Rattle.roots.proofs.lengths.guess.Reads as guess-reads
 use Rattle.roots.proofs.lengths.guesses.Goals as goal
 
 pub loop-i-init : goal.loop-i-init

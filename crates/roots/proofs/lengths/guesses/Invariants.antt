@@ -1,14 +1,8 @@
 -- `roots::lengths::guesses` meets its contract: what it writes is written over. Assumes nothing.
-use mathlib.Core.Path.{◌≡◌, refl, ◌∙◌}
+use mathlib.Core.Path.{◌≡◌}
 use Prim.Native.Nat.{ℕ, ◌-◌}
-use native.Mathlib.Omega.{arith}
 use lib.Ieee.{Float}
-use borrow.Author.Rules.{rules}
 use Rattle.laws.specs.Room.{filled_on}
-use Rattle.laws.proofs.Rooms.{filled_over}
-use Rattle.roots.proofs.lengths.guesses.Reads as reads
-use Rattle.roots.proofs.lengths.guesses.Lts as lts
-use Rattle.roots.proofs.lengths.guess.Reads as guess-reads
 use Rattle.roots.proofs.lengths.guesses.Given as goal
 
 abbrev pub invariant-loop-i : goal.invariant-loop-i

@@ -3,11 +3,6 @@ use mathlib.Core.Path.{refl, ◌∙◌}
 use borrow.Author.Tests.{le-leb, lt-leb}
 use Rattle.roots.specs.Hypot.{with_one_of}
 use Rattle.laws.proofs.Choices.{if_true, if_false}
-use borrow.Author.Rules.{rules}
-use Rattle.roots.proofs.lengths.with_one.Reads as reads
-use Rattle.roots.proofs.lengths.with_one.Lts as lts
-use Rattle.roots.proofs.lengths.from_guesses.Reads as from-guesses-reads
-use Rattle.roots.proofs.lengths.guesses.Reads as guesses-reads
 use Rattle.roots.proofs.lengths.with_one.Goals as goal
 
 pub returns-then-n-le256 : goal.returns-then-n-le256

@@ -1,9 +1,6 @@
 -- `roots::near::inverse` meets its contract: no pattern here is a NaN. Assumes nothing.
 use native.Mathlib.Omega.{arith}
 use Rattle.laws.proofs.Patterns.{below_nan}
-use borrow.Author.Rules.{rules}
-use Rattle.roots.proofs.near.inverse.Reads as reads
-use Rattle.roots.proofs.near.inverse.Lts as lts
 use Rattle.roots.proofs.near.inverse.Goals as goal
 
 pub float_from_bits-r0 : goal.float_from_bits-r0

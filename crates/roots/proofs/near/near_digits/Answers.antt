@@ -2,11 +2,6 @@
 use native.Mathlib.Omega.{arith}
 use Rattle.laws.proofs.Floats.{self_same}
 use Rattle.laws.proofs.Patterns.{below_nan}
-use borrow.Author.Rules.{rules}
-use Rattle.roots.proofs.near.near_digits.Reads as reads
-use Rattle.roots.proofs.near.near_digits.Lts as lts
-use Rattle.roots.proofs.near.inverse.Reads as inverse-reads
-use Rattle.roots.proofs.near.refined.Reads as refined-reads
 use Rattle.roots.proofs.near.near_digits.Goals as goal
 
 pub float_from_bits-x : goal.float_from_bits-x

@@ -2,10 +2,6 @@
 use native.Mathlib.Omega.{arith}
 use Rattle.laws.proofs.Choices.{false_true}
 use Rattle.roots.proofs.Rounding.{near_two}
-use borrow.Author.Rules.{rules}
-use Rattle.roots.proofs.near.nearest_by_two.Reads as reads
-use Rattle.roots.proofs.near.nearest_by_two.Lts as lts
-use Rattle.roots.proofs.near.within.Reads as within-reads
 use Rattle.roots.proofs.near.nearest_by_two.Goals as goal
 
 pub returns-then-c-first : goal.returns-then-c-first

@@ -1,9 +1,5 @@
 -- `roots::near::within` meets its contract. Assumes nothing.
 use Rattle.laws.proofs.Choices.{false_true}
-use borrow.Author.Rules.{rules}
-use Rattle.roots.proofs.near.within.Reads as reads
-use Rattle.roots.proofs.near.within.Lts as lts
-use Rattle.roots.proofs.wide.square.Reads as square-reads
 use Rattle.roots.proofs.near.within.Goals as goal
 
 pub returns-then-hi-high : goal.returns-then-hi-high

@@ -1,8 +1,6 @@
 -- `roots::pattern::above` meets its contract. Assumes nothing.
 use mathlib.Core.Path.{refl}
 use mathlib.Core.Logic.{inl, inr}
-use Rattle.roots.proofs.pattern.above.Reads as reads
-use Rattle.roots.proofs.pattern.above.Lts as lts
 use Rattle.roots.proofs.pattern.above.Goals as goal
 
 pub returns-then-b-a : goal.returns-then-b-a

@@ -1,8 +1,6 @@
 -- `roots::pattern::least` meets its contract. Assumes nothing.
 use mathlib.Core.Path.{refl}
 use mathlib.Core.Logic.{inl, inr}
-use Rattle.roots.proofs.pattern.least.Reads as reads
-use Rattle.roots.proofs.pattern.least.Lts as lts
 use Rattle.roots.proofs.pattern.least.Goals as goal
 
 pub returns-then-a-b : goal.returns-then-a-b

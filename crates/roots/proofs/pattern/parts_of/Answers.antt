@@ -1,8 +1,5 @@
 -- `roots::pattern::parts_of` meets its contract. Assumes nothing.
 use Rattle.laws.proofs.Patterns.{low_parts, high_parts}
-use borrow.Author.Rules.{rules}
-use Rattle.roots.proofs.pattern.parts_of.Reads as reads
-use Rattle.roots.proofs.pattern.parts_of.Lts as lts
 use Rattle.roots.proofs.pattern.parts_of.Goals as goal
 
 pub returns-then-b-lt4503599627370496 : goal.returns-then-b-lt4503599627370496

@@ -1,11 +1,6 @@
 -- `roots::pattern::place` meets its contract: `placed`, the law of rounding in proofs/Rounding.antt. Assumes nothing.
 use native.Mathlib.Omega.{arith}
 use Rattle.roots.proofs.Rounding.{one_most, least_most, which_fits, placed}
-use borrow.Author.Rules.{rules}
-use Rattle.roots.proofs.pattern.place.Reads as reads
-use Rattle.roots.proofs.pattern.place.Lts as lts
-use Rattle.roots.proofs.pattern.above.Reads as above-reads
-use Rattle.roots.proofs.pattern.least.Reads as least-reads
 use Rattle.roots.proofs.pattern.place.Goals as goal
 
 pub overflow_add-u : goal.overflow_add-u

@@ -1,11 +1,8 @@
 use mathlib.Core.Path.{◌≡◌}
-use Prim.Native.Nat.{ℕ, ◌+◌, ◌-◌, ◌*◌, ◌^◌, ◌≤◌, ◌<◌}
+use Prim.Native.Nat.{ℕ, ◌+◌, ◌*◌, ◌^◌, ◌≤◌, ◌<◌}
 use native.Mathlib.Nat.{mul-le-mul_right, lt_of_not-le, le_of_suc-le-suc}
 use native.Mathlib.Omega.{arith}
 use lib.Pow.{pow-add, pow_mono}
-use borrow.Author.Rules.{rules}
-use Rattle.roots.proofs.pattern.shift_up.Reads as reads
-use Rattle.roots.proofs.pattern.shift_up.Lts as lts
 use Rattle.roots.proofs.pattern.shift_up.Goals as goal
 
 doubled : (t m by : ℕ) → m ≡ t * 2 ^ by → m * 2 ≡ t * 2 ^ (by + 1)

@@ -1,12 +1,6 @@
 -- `roots::pattern::shift_up` meets its contract. Assumes nothing.
 use mathlib.Core.Path.{◌≡◌}
-use Prim.Native.Nat.{ℕ, ◌+◌, ◌-◌, ◌*◌, ◌^◌, ◌≤◌, ◌<◌}
-use native.Mathlib.Nat.{mul-le-mul_right, lt_of_not-le, le_of_suc-le-suc}
-use native.Mathlib.Omega.{arith}
-use lib.Pow.{pow-add, pow_mono}
-use borrow.Author.Rules.{rules}
-use Rattle.roots.proofs.pattern.shift_up.Reads as reads
-use Rattle.roots.proofs.pattern.shift_up.Lts as lts
+use Prim.Native.Nat.{◌-◌, ◌*◌, ◌^◌, ◌≤◌, ◌<◌}
 use Rattle.roots.proofs.pattern.shift_up.Given as goal
 
 abbrev pub invariant-loop-m : goal.invariant-loop-m

@@ -1,10 +1,7 @@
 -- `roots::whole::climb` meets its contract: root * root + rem stays, and rem falls. Assumes nothing.
 use mathlib.Core.Path.{◌≡◌}
 use Prim.Native.Nat.{◌+◌, ◌≤◌}
-use native.Mathlib.Omega.{arith}
 use Rattle.roots.specs.Root.{sq}
-use Rattle.roots.proofs.whole.climb.Reads as reads
-use Rattle.roots.proofs.whole.climb.Lts as lts
 use Rattle.roots.proofs.whole.climb.Given as goal
 
 abbrev pub invariant-loop-root : goal.invariant-loop-root

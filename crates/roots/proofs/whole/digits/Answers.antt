@@ -1,12 +1,9 @@
 use mathlib.Core.Path.{ap}
 use native.Mathlib.Nat.{mod-eq_of_lt}
 use Prim.Native.Nat.{ℕ, ◌+◌, ◌*◌, ◌^◌}
-use borrow.Author.Rules.{rules}
 use native.Mathlib.Omega.{arith}
 use Rattle.roots.specs.Root.{sq}
-use Rattle.roots.proofs.DigitLoop.{Head, under, even_turn, odd_turn, done}
-use Rattle.roots.proofs.whole.digits.Reads as reads
-use Rattle.roots.proofs.whole.digits.Lts as lts
+use Rattle.roots.proofs.DigitLoop.{under, even_turn, odd_turn, done}
 use Rattle.roots.proofs.whole.digits.Goals as goal
 
 pub loop-left-init : goal.loop-left-init

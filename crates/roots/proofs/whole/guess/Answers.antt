@@ -6,9 +6,6 @@ use lib.Ieee.{in_float}
 use Rattle.laws.proofs.Floats.{self_same}
 use Rattle.laws.proofs.Patterns.{below_nan}
 use Rattle.laws.proofs.Values.{whole_no_nan}
-use borrow.Author.Rules.{rules}
-use Rattle.roots.proofs.whole.guess.Reads as reads
-use Rattle.roots.proofs.whole.guess.Lts as lts
 use Rattle.roots.proofs.whole.guess.Goals as goal
 
 pub int_to_float-x : goal.int_to_float-x

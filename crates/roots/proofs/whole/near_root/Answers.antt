@@ -1,11 +1,6 @@
 -- `roots::whole::near_root` meets its contract. Assumes nothing.
 use native.Mathlib.Omega.{arith}
 use Rattle.roots.proofs.Limbs.{off_small, last_small, last_between}
-use borrow.Author.Rules.{rules}
-use Rattle.roots.proofs.whole.near_root.Reads as reads
-use Rattle.roots.proofs.whole.near_root.Lts as lts
-use Rattle.roots.proofs.whole.wide_root.Reads as wide-root-reads
-use Rattle.roots.proofs.wide.joined.Reads as joined-reads
 use Rattle.roots.proofs.whole.near_root.Goals as goal
 
 pub overflow_add-result : goal.overflow_add-result

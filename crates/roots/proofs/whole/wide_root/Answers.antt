@@ -5,13 +5,6 @@ use native.Mathlib.Omega.{arith}
 use Rattle.roots.specs.Root.{sq}
 use Rattle.roots.specs.Inner.{RootPair}
 use Rattle.roots.proofs.Limbs.{limb_fits, limbs_fit, divisor_fits, step_le, step_sum}
-use borrow.Author.Rules.{rules}
-use Rattle.roots.proofs.whole.wide_root.Reads as reads
-use Rattle.roots.proofs.whole.wide_root.Lts as lts
-use Rattle.roots.proofs.whole.climb.Reads as climb-reads
-use Rattle.roots.proofs.whole.guess.Reads as guess-reads
-use Rattle.roots.proofs.whole.slow_wide_root.Reads as slow-wide-root-reads
-use Rattle.roots.proofs.wide.square.Reads as square-reads
 use Rattle.roots.proofs.whole.wide_root.Goals as goal
 
 pub guess-g-requires : goal.guess-g-requires

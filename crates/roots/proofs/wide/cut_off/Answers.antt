@@ -3,9 +3,6 @@ use native.Mathlib.Omega.{arith}
 use native.Mathlib.Nat.{div-mul-le_self}
 use Prim.Native.Nat.{◌^◌}
 use Rattle.roots.proofs.Limbs.{top_back, low_back, off_lt, limb, mid_whole, top_lt, whole}
-use borrow.Author.Rules.{rules}
-use Rattle.roots.proofs.wide.cut_off.Reads as reads
-use Rattle.roots.proofs.wide.cut_off.Lts as lts
 use Rattle.roots.proofs.wide.cut_off.Goals as goal
 
 pub overflow_sub-mid : goal.overflow_sub-mid

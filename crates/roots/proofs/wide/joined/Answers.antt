@@ -2,11 +2,6 @@
 use mathlib.Core.Path.{◌∙◌}
 use native.Mathlib.Omega.{arith}
 use Rattle.roots.proofs.Limbs.{high_lt, sum_is}
-use borrow.Author.Rules.{rules}
-use Rattle.roots.proofs.wide.joined.Reads as reads
-use Rattle.roots.proofs.wide.joined.Lts as lts
-use Rattle.roots.proofs.wide.cut_off.Reads as cut-off-reads
-use Rattle.roots.proofs.wide.square.Reads as square-reads
 use Rattle.roots.proofs.wide.joined.Goals as goal
 
 pub cut_off-z-requires : goal.cut_off-z-requires

@@ -1,9 +1,6 @@
 -- `roots::wide::square` meets its contract. Assumes nothing.
 use native.Mathlib.Omega.{arith}
 use Rattle.roots.proofs.Limbs.{parts_fit, square_is}
-use borrow.Author.Rules.{rules}
-use Rattle.roots.proofs.wide.square.Reads as reads
-use Rattle.roots.proofs.wide.square.Lts as lts
 use Rattle.roots.proofs.wide.square.Goals as goal
 
 pub overflow_mul-m : goal.overflow_mul-m

@@ -1,5 +1,4 @@
 -- `rows::answers::bracket_answer` meets its contract. Assumes nothing.
-use borrow.Author.Rules.{rules}
 use Rattle.rows.proofs.answers.bracket_answer.Goals as goal
 
 pub returns-in-Short : goal.returns-in-Short

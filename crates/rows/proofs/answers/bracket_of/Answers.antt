@@ -7,7 +7,6 @@ use Rattle.surface.specs.Surface.{bracket_run}
 use Rattle.rows.specs.declared.answers.BracketAnswer.{BracketAnswer}
 use Rattle.rows.specs.Answers.{bracket_answer, bracket_for, places_row}
 use Rattle.rows.specs.Flag.{flag}
-use borrow.Author.Rules.{rules}
 use Rattle.rows.proofs.answers.bracket_of.Goals as goal
 
 -- the number and the rows of an answer are those of what it is equal to

@@ -1,5 +1,4 @@
 -- `rows::answers::covers_answer` meets its contract. Assumes nothing.
-use borrow.Author.Rules.{rules}
 use Rattle.rows.proofs.answers.covers_answer.Goals as goal
 
 pub returns-in-All : goal.returns-in-All

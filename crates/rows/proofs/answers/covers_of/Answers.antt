@@ -1,11 +1,10 @@
 -- `rows::answers::covers_of` meets its contract. Assumes nothing.
-use mathlib.Core.Path.{◌≡◌, ap, ◌∙◌}
+use mathlib.Core.Path.{ap, ◌∙◌}
 use mathlib.Core.List.{[], ◌∷◌}
 use Prim.Native.Nat.{ℕ}
 use Rattle.rows.specs.Flag.{flag}
 use Rattle.rows.specs.declared.answers.CoversAnswer.{CoversAnswer}
 use Rattle.rows.specs.Answers.{covers_answer, covers_for}
-use borrow.Author.Rules.{rules}
 use Rattle.rows.proofs.answers.covers_of.Goals as goal
 
 pub returns : goal.returns

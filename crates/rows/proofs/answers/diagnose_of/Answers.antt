@@ -1,6 +1,5 @@
 -- `rows::answers::diagnose_of` meets its contract. Assumes nothing.
 use Rattle.rows.proofs.Told.{told}
-use borrow.Author.Rules.{rules}
 use Rattle.rows.proofs.answers.diagnose_of.Goals as goal
 
 pub returns : goal.returns

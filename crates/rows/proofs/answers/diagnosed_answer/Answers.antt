@@ -1,5 +1,4 @@
 -- `rows::answers::diagnosed_answer` meets its contract. Assumes nothing.
-use borrow.Author.Rules.{rules}
 use Rattle.rows.proofs.answers.diagnosed_answer.Goals as goal
 
 pub returns-in-Done : goal.returns-in-Done

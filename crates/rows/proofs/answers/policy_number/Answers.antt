@@ -1,5 +1,4 @@
 -- `rows::answers::policy_number` meets its contract. Assumes nothing.
-use borrow.Author.Rules.{rules}
 use Rattle.rows.proofs.answers.policy_number.Goals as goal
 
 pub returns-in-Reject : goal.returns-in-Reject

@@ -1,5 +1,4 @@
 -- `rows::answers::region_answer` meets its contract. Assumes nothing.
-use borrow.Author.Rules.{rules}
 use Rattle.rows.proofs.answers.region_answer.Goals as goal
 
 pub returns-in-Calibrated : goal.returns-in-Calibrated

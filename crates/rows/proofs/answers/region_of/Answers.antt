@@ -1,5 +1,5 @@
 -- `rows::answers::region_of` meets its contract. Assumes nothing.
-use mathlib.Core.Path.{◌≡◌, ap, ◌∙◌}
+use mathlib.Core.Path.{ap, ◌∙◌}
 use mathlib.Core.List.{[], ◌∷◌}
 use Prim.Native.Nat.{ℕ}
 use Rattle.surface.specs.declared.types.ShortExpiryPolicy.{ShortExpiryPolicy}
@@ -7,7 +7,6 @@ use Rattle.surface.specs.Surface.{region_run}
 use Rattle.rows.specs.Flag.{flag}
 use Rattle.rows.specs.declared.answers.RegionAnswer.{RegionAnswer}
 use Rattle.rows.specs.Answers.{region_answer, region_for}
-use borrow.Author.Rules.{rules}
 use Rattle.rows.proofs.answers.region_of.Goals as goal
 
 pub returns : goal.returns

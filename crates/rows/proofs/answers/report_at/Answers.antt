@@ -7,7 +7,6 @@ use lib.ListN.{get_or}
 use Rattle.diagnostics.specs.declared.tally.Check.{Check}
 use Rattle.diagnostics.specs.declared.report.SurfaceDiagnostics.{SurfaceDiagnostics}
 use Rattle.rows.specs.Answers.{check_at, report_at}
-use borrow.Author.Rules.{rules}
 use Rattle.rows.proofs.answers.report_at.Goals as goal
 
 abbrev report : Check → Check → Check → ℕ → SurfaceDiagnostics

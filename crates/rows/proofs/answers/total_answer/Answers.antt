@@ -1,5 +1,4 @@
 -- `rows::answers::total_answer` meets its contract. Assumes nothing.
-use borrow.Author.Rules.{rules}
 use Rattle.rows.proofs.answers.total_answer.Goals as goal
 
 pub returns-in-At : goal.returns-in-At

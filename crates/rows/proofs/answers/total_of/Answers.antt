@@ -1,10 +1,9 @@
 -- `rows::answers::total_of` meets its contract. Assumes nothing.
-use mathlib.Core.Path.{◌≡◌, ap, ◌∙◌}
+use mathlib.Core.Path.{ap, ◌∙◌}
 use Rattle.surface.specs.declared.types.ShortExpiryPolicy.{ShortExpiryPolicy}
 use Rattle.surface.specs.Surface.{total_run}
 use Rattle.rows.specs.declared.answers.TotalAnswer.{TotalAnswer}
 use Rattle.rows.specs.Answers.{total_answer, total_row, total_for}
-use borrow.Author.Rules.{rules}
 use Rattle.rows.proofs.answers.total_of.Goals as goal
 
 pub returns : goal.returns

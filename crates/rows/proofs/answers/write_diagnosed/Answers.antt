@@ -5,7 +5,6 @@ use Prim.Native.Nat.{ℕ}
 use Rattle.rows.specs.declared.answers.DiagnosedAnswer.{DiagnosedAnswer}
 use Rattle.rows.specs.Answers.{diagnosed_counts}
 use Rattle.rows.specs.Flag.{flag}
-use borrow.Author.Rules.{rules}
 use Rattle.rows.proofs.answers.write_diagnosed.Goals as goal
 
 tallied : {b s g : ℕ} (a : DiagnosedAnswer) → b ≡ flag a.report.butterfly.worst.found → s ≡ flag a.report.calendar_slope.worst.found → g ≡ flag a.report.calendar_gap.worst.found

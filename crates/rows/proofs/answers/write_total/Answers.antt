@@ -2,7 +2,6 @@
 use mathlib.Core.Path.{ap}
 use Rattle.rows.specs.declared.answers.TotalAnswer.{TotalAnswer}
 use Rattle.rows.specs.Answers.{total_row}
-use borrow.Author.Rules.{rules}
 use Rattle.rows.proofs.answers.write_total.Goals as goal
 
 pub returns : goal.returns

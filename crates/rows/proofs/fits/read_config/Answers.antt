@@ -1,5 +1,4 @@
 -- `rows::fits::read_config` meets its contract. Assumes nothing.
-use borrow.Author.Rules.{rules}
 use mathlib.Core.Path.{refl}
 use Rattle.rows.specs.Rows.{read_config}
 use Rattle.rows.proofs.fits.read_config.Goals as goal

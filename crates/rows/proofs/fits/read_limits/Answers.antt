@@ -1,5 +1,4 @@
 -- `rows::fits::read_limits` meets its contract. Assumes nothing.
-use borrow.Author.Rules.{rules}
 use mathlib.Core.Path.{refl}
 use Rattle.rows.specs.Rows.{read_limits}
 use Rattle.rows.proofs.fits.read_limits.Goals as goal

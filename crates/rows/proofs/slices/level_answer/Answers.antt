@@ -1,5 +1,4 @@
 -- `rows::slices::level_answer` meets its contract. Assumes nothing.
-use borrow.Author.Rules.{rules}
 use Rattle.rows.proofs.slices.level_answer.Goals as goal
 
 pub returns-in-Value : goal.returns-in-Value

@@ -1,5 +1,4 @@
 -- `rows::slices::range_answer` meets its contract. Assumes nothing.
-use borrow.Author.Rules.{rules}
 use Rattle.rows.proofs.slices.range_answer.Goals as goal
 
 pub returns-in-Range : goal.returns-in-Range

@@ -1,5 +1,4 @@
 -- `rows::slices::read_range` meets its contract. Assumes nothing.
-use borrow.Author.Rules.{rules}
 use mathlib.Core.Path.{refl}
 use Rattle.rows.specs.Rows.{read_range}
 use Rattle.rows.proofs.slices.read_range.Goals as goal

@@ -1,5 +1,4 @@
 -- `rows::slices::read_slice` meets its contract. Assumes nothing.
-use borrow.Author.Rules.{rules}
 use mathlib.Core.Path.{refl}
 use Rattle.rows.specs.Rows.{read_slice}
 use Rattle.rows.proofs.slices.read_slice.Goals as goal

@@ -1,5 +1,4 @@
 -- `rows::slices::slice_answer` meets its contract. Assumes nothing.
-use borrow.Author.Rules.{rules}
 use Rattle.rows.proofs.slices.slice_answer.Goals as goal
 
 pub returns-in-Slice : goal.returns-in-Slice

@@ -1,5 +1,4 @@
 -- `rows::slices::values_answer` meets its contract. Assumes nothing.
-use borrow.Author.Rules.{rules}
 use Rattle.rows.proofs.slices.values_answer.Goals as goal
 
 pub returns-in-At : goal.returns-in-At

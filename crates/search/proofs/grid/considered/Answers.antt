@@ -1,7 +1,6 @@
 -- `search::grid::considered` meets its contract. Assumes nothing.
 use mathlib.Core.Path.{sym, ◌∙◌}
 use Rattle.search.specs.Search.{consider}
-use borrow.Author.Rules.{rules}
 use Rattle.search.proofs.grid.considered.Goals as goal
 
 pub better_than-requires : goal.better_than-requires

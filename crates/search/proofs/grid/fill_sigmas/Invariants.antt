@@ -1,11 +1,8 @@
 -- `search::grid::fill_sigmas` meets its contract. Assumes nothing.
-use mathlib.Core.Path.{◌≡◌, refl, ap, ◌∙◌}
+use mathlib.Core.Path.{◌≡◌}
 use Prim.Native.Nat.{◌-◌}
-use native.Mathlib.Omega.{arith}
 use lib.ListN.{set}
 use Rattle.laws.specs.Loop.{for}
-use Rattle.laws.proofs.Loops.{again, ended}
-use Rattle.exponent.specs.Exp.{exp_of}
 use Rattle.laws.specs.Room.{filled_on}
 use Rattle.search.specs.Sigmas.{sigma_at}
 use Rattle.search.proofs.grid.fill_sigmas.Given as goal

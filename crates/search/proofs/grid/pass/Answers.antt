@@ -1,12 +1,12 @@
 use mathlib.Core.Path.{◌≡◌, sym, ap, ◌∙◌}
 use Rattle.cell.specs.declared.Cell.{Cell}
 use native.Mathlib.Nat.{mul_assoc}
-use Prim.Native.Nat.{◌-◌, ◌*◌, ◌≤◌}
-use lib.ListN.{length, length-replicate}
+use Prim.Native.Nat.{◌*◌}
+use lib.ListN.{length-replicate}
 use Rattle.laws.specs.Floats.{+0}
-use Rattle.laws.specs.Loop.{for, sum}
+use Rattle.laws.specs.Loop.{sum}
 use Rattle.moves.specs.declared.PassBest.{PassBest}
-use Rattle.search.specs.Search.{no_best, grid_row, pass_of}
+use Rattle.search.specs.Search.{no_best, pass_of}
 use Rattle.search.specs.Run.{fit_cell}
 use Rattle.search.specs.Sigmas.{sigmas_of}
 use Rattle.laws.proofs.Sums.{sum_most}

@@ -1,27 +1,11 @@
 -- `search::grid::row` meets its contract. Assumes nothing.
-use mathlib.Core.Path.{◌≡◌, ap, ap₂, ◌∙◌}
-use mathlib.Core.List.{List}
-use Prim.Native.Nat.{ℕ, ◌+◌, ◌-◌, ◌≤◌, ◌<◌}
-use lib.ListN.{length, replicate, length-replicate}
-use lib.Ieee.{Float, nan}
-use Rattle.laws.specs.Floats.{at, +0}
-use Rattle.cell.specs.declared.Cell.{Cell}
-use Rattle.cell.specs.declared.Limits.{Limits}
+use mathlib.Core.Path.{◌≡◌}
+use Prim.Native.Nat.{◌-◌, ◌≤◌}
+use lib.ListN.{length}
+use Rattle.laws.specs.Floats.{at}
 use Rattle.cell.specs.Cell.{inner_of}
-use Rattle.laws.proofs.Rooms.{filled_at}
-use Rattle.moves.specs.declared.Window.{Window}
-use Rattle.moves.specs.declared.PassBest.{PassBest}
-use Rattle.search.specs.Sigmas.{sigma_at, sigmas_of}
-use Rattle.laws.specs.Loop.{for, sum}
-use Rattle.moves.specs.Moves.{axis_point}
-use Rattle.search.specs.Search.{consider, cell_at, grid_row}
-use Rattle.search.specs.Run.{fit_cell}
-use Rattle.laws.proofs.Sums.{sum_most}
-use Rattle.search.proofs.Passes.{CountsTo, faces_at, updates_on, row_counts}
-use Rattle.search.proofs.FitCells.{fit_most, fit_few}
-use Rattle.laws.proofs.Loops.{none_yet, one_more, all_done, for_same}
-use borrow.Author.Rules.{rules}
-use native.Mathlib.Omega.{arith}
+use Rattle.laws.specs.Loop.{for}
+use Rattle.search.specs.Search.{consider}
 use Rattle.search.proofs.grid.row.Given as goal
 
 abbrev pub invariant-loop-j : goal.invariant-loop-j

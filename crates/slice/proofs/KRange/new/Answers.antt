@@ -3,7 +3,6 @@ use Rattle.laws.proofs.Choices.{number_goes, number_no}
 use mathlib.Core.Path.{refl}
 use Rattle.slice.specs.Slice.{ranged_of}
 use Rattle.slice.specs.declared.Ranged.TheVariants as ranged
-use borrow.Author.Rules.{rules}
 use Rattle.slice.proofs.KRange.new.Goals as goal
 
 pub returns-then-n-eq0 : goal.returns-then-n-eq0

@@ -2,7 +2,6 @@
 use Rattle.laws.proofs.Choices.{number_goes, number_no}
 use Rattle.slice.specs.Slice.{eval_of}
 use Rattle.slice.specs.declared.Evaluated.TheVariants as evaluated
-use borrow.Author.Rules.{rules}
 use Rattle.slice.proofs.SviSlice.eval.Goals as goal
 
 pub returns-then-n-eq0 : goal.returns-then-n-eq0

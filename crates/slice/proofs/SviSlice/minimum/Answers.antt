@@ -3,7 +3,6 @@ use Rattle.laws.proofs.Choices.{number_goes, number_no}
 use mathlib.Core.Path.{ap}
 use Rattle.slice.specs.Slice.{minimum_of, level_if_good}
 use Rattle.slice.specs.declared.Level.TheVariants as level
-use borrow.Author.Rules.{rules}
 use Rattle.slice.proofs.SviSlice.minimum.Goals as goal
 
 pub returns-then-n-eq0 : goal.returns-then-n-eq0
