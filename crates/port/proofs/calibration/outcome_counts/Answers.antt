@@ -1,5 +1,4 @@
 -- `port::calibration::outcome_counts` meets its contract. Assumes nothing.
-use borrow.Author.Rules.{rules}
 use Rattle.port.proofs.calibration.outcome_counts.Goals as goal
 
 pub returns : goal.returns

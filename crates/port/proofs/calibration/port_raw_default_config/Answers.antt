@@ -1,5 +1,4 @@
 -- `port::calibration::port_raw_default_config` meets its contract. Assumes nothing.
-use borrow.Author.Rules.{rules}
 use Rattle.port.proofs.calibration.port_raw_default_config.Goals as goal
 
 pub returns : goal.returns

@@ -1,5 +1,4 @@
 -- `port::calibration::port_raw_fit_quotes` meets its contract. Assumes nothing.
-use borrow.Author.Rules.{rules}
 use Rattle.port.proofs.InRows.{quotes_in_rows}
 use Rattle.port.proofs.calibration.port_raw_fit_quotes.Goals as goal
 

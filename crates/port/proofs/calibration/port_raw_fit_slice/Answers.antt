@@ -1,5 +1,4 @@
 -- `port::calibration::port_raw_fit_slice` meets its contract. Assumes nothing.
-use borrow.Author.Rules.{rules}
 use Rattle.port.proofs.InRows.{in_rows}
 use Rattle.port.proofs.calibration.port_raw_fit_slice.Goals as goal
 

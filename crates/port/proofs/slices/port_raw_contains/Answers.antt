@@ -1,6 +1,5 @@
 -- `port::slices::port_raw_contains` meets its contract. Assumes nothing.
 use mathlib.Core.Path.{ap, ◌∙◌}
-use borrow.Author.Rules.{rules}
 use Rattle.slice.specs.declared.KRange.{KRange}
 use Rattle.slice.specs.Slice.{holds_k}
 use Rattle.rows.specs.Flag.{flag}

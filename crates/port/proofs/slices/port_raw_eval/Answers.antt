@@ -1,11 +1,10 @@
 -- `port::slices::port_raw_eval` meets its contract. Assumes nothing.
-use mathlib.Core.Path.{◌≡◌, ap, ◌∙◌}
+use mathlib.Core.Path.{ap, ◌∙◌}
 use Rattle.slice.specs.declared.SviSlice.{SviSlice}
 use Rattle.slice.specs.Slice.{eval_of}
 use Rattle.rows.specs.Slices.{values_answer}
 use Rattle.rows.specs.Rows.{values_row}
 use Rattle.rows.specs.declared.slices.ValuesAnswer.{ValuesAnswer}
-use borrow.Author.Rules.{rules}
 use Rattle.port.proofs.slices.port_raw_eval.Goals as goal
 
 pub returns : goal.returns

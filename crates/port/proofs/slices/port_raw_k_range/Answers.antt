@@ -1,9 +1,8 @@
 -- `port::slices::port_raw_k_range` meets its contract. Assumes nothing.
-use mathlib.Core.Path.{◌≡◌, ap, ◌∙◌}
+use mathlib.Core.Path.{ap, ◌∙◌}
 use Rattle.rows.specs.Slices.{range_answer}
 use Rattle.rows.specs.Rows.{range_row}
 use Rattle.rows.specs.declared.slices.RangeAnswer.{RangeAnswer}
-use borrow.Author.Rules.{rules}
 use Rattle.port.proofs.slices.port_raw_k_range.Goals as goal
 
 pub returns : goal.returns

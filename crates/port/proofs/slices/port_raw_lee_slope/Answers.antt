@@ -1,10 +1,9 @@
 -- `port::slices::port_raw_lee_slope` meets its contract. Assumes nothing.
-use mathlib.Core.Path.{◌≡◌, ap, ◌∙◌}
+use mathlib.Core.Path.{ap, ◌∙◌}
 use mathlib.Core.List.{[], ◌∷◌}
 use Rattle.slice.specs.Slice.{lee_slope_of}
 use Rattle.rows.specs.Slices.{level_answer}
 use Rattle.rows.specs.declared.slices.LevelAnswer.{LevelAnswer}
-use borrow.Author.Rules.{rules}
 use Rattle.port.proofs.slices.port_raw_lee_slope.Goals as goal
 
 pub returns : goal.returns

@@ -1,11 +1,10 @@
 -- `port::slices::port_raw_slice` meets its contract. Assumes nothing.
-use mathlib.Core.Path.{◌≡◌, ap, ◌∙◌}
+use mathlib.Core.Path.{ap, ◌∙◌}
 use Rattle.slice.specs.declared.KRange.{KRange}
 use Rattle.slice.specs.Slice.{made_of}
 use Rattle.rows.specs.Slices.{slice_answer}
 use Rattle.rows.specs.Rows.{slice_row}
 use Rattle.rows.specs.declared.slices.SliceAnswer.{SliceAnswer}
-use borrow.Author.Rules.{rules}
 use Rattle.port.proofs.slices.port_raw_slice.Goals as goal
 
 pub returns : goal.returns

@@ -1,6 +1,5 @@
 -- `port::solve::port_raw_cell` meets its contract. Assumes nothing.
 use mathlib.Core.Path.{◌≡◌, ap, ◌∙◌}
-use borrow.Author.Rules.{rules}
 use Rattle.cell.specs.declared.Cell.{Cell}
 use Rattle.cell.specs.declared.Limits.{Limits}
 use Rattle.cell.specs.Cell.{inner_of}

@@ -1,7 +1,6 @@
 -- `port::solve::port_raw_solve` meets its contract. Assumes nothing.
 use mathlib.Core.Path.{ap, ◌∙◌}
 use mathlib.Core.List.{[], ◌∷◌}
-use borrow.Author.Rules.{rules}
 use Rattle.solver.specs.declared.Solved.{Solved}
 use Rattle.rows.specs.Flag.{flag}
 use Rattle.port.proofs.solve.port_raw_solve.Goals as goal

@@ -2,7 +2,6 @@
 use mathlib.Core.Path.{ap, ◌∙◌}
 use Rattle.diagnostics.specs.Tally.{is_clean}
 use Rattle.rows.specs.Flag.{flag}
-use borrow.Author.Rules.{rules}
 use Rattle.port.proofs.surfaces.port_raw_check_clean.Goals as goal
 
 pub returns : goal.returns

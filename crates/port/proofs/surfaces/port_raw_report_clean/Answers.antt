@@ -2,7 +2,6 @@
 use mathlib.Core.Path.{ap, ◌∙◌}
 use Rattle.diagnostics.specs.Diagnostics.{report_clean}
 use Rattle.rows.specs.Flag.{flag}
-use borrow.Author.Rules.{rules}
 use Rattle.port.proofs.surfaces.port_raw_report_clean.Goals as goal
 
 pub returns : goal.returns

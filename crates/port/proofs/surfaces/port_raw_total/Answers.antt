@@ -1,8 +1,7 @@
 -- `port::surfaces::port_raw_total` meets its contract. Assumes nothing.
-use mathlib.Core.Path.{◌≡◌, ap, ◌∙◌}
+use mathlib.Core.Path.{ap, ◌∙◌}
 use Rattle.rows.specs.Answers.{total_answer, total_row}
 use Rattle.rows.specs.declared.answers.TotalAnswer.{TotalAnswer}
-use borrow.Author.Rules.{rules}
 use Rattle.port.proofs.surfaces.port_raw_total.Goals as goal
 
 pub returns : goal.returns
