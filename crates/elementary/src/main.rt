@@ -2,11 +2,11 @@
 // these 16 hexadecimal digits; of each file the program writes how many lines have the answer that the function gives, and of how many, if not of all.
 #![tactic(auto)]
 
-ghost use Rattle.std.specs.Prelude.{◌≤◌, length, IfOk};
+ghost use Rattle.std.specs.Prelude.{◌≤◌, length};
 
 use std::env::{Env, FillError};
 use std::fs::{self, Files};
-use std::io::{self, Error, ErrorKind, Read};
+use std::io::Read;
 use std::str;
 
 // The line so far: its name's letters, its spaces, and its last three words; and how many lines before it there were, and how many of them agreed.
@@ -118,23 +118,23 @@ fn all_fed(start: Reading, part: &[u8]) -> Reading {
     s
 }
 
-// Reads until buf is full or the input ends, since one read may give fewer bytes than there are. Returns how many bytes it put at the start of buf.
-fn read_full<R: Read>(input: &mut R, buf: &mut [u8]) -> io::Result<usize>
-    ensures { IfOk result (λ n. n ≤ length buf.new) }
+// Reads until buf is full, the input ends or a read fails, since one read may give fewer bytes than there are. Returns how many bytes it put at the start of buf.
+fn read_full<R: Read>(input: &mut R, buf: &mut [u8]) -> usize
+    ensures { result ≤ length buf.new }
 {
     let mut done = 0;
     while done < buf.len() {
-        let n = input.read(&mut buf[done..])?;
-        if n == 0 {
-            return Ok(done);
+        match input.read(&mut buf[done..]) {
+            Ok(0) => return done,
+            Ok(n) => done += n,
+            Err(_) => return done,
         }
-        done += n;
     }
-    Ok(done)
+    done
 }
 
 // Reads to the end, 65,536 bytes at a time.
-fn read_through<R: Read>(input: &mut R) -> io::Result<Reading> {
+fn read_through<R: Read>(input: &mut R) -> Reading {
     let mut s = Reading {
         name: 0,
         spaces: 0,
@@ -148,13 +148,13 @@ fn read_through<R: Read>(input: &mut R) -> io::Result<Reading> {
     let mut left: u64 = 1000000;
     while 0 < left {
         left -= 1;
-        let n = read_full(input, &mut part)?;
+        let n = read_full(input, &mut part);
         if n == 0 {
-            return Ok(s);
+            return s;
         }
         s = all_fed(s, &part[..n]);
     }
-    Ok(s)
+    s
 }
 
 // How many arguments there are, the program's own name among them.
@@ -178,39 +178,46 @@ fn argument(rt: &impl Env, i: usize, name: &mut [u8]) -> usize
     }
 }
 
-fn text(name: &[u8]) -> io::Result<&str> {
+// The name of a file as text: one that is not UTF-8 is said on standard error.
+fn text<'a>(rt: &impl Eprint, name: &'a [u8]) -> Option<&'a str> {
     match str::from_utf8(name) {
-        Ok(text) => Ok(text),
-        Err(_) => Err(Error::new(ErrorKind::InvalidData, "the name of a file is not UTF-8")),
+        Ok(text) => Some(text),
+        Err(_) => {
+            let _ = eprintln!(rt; "the name of a file is not UTF-8");
+            None
+        }
     }
 }
 
 // Writes a line on the file that argument i names. One that cannot be opened is said on standard error.
-fn file(rt: &(impl Env + Files + Print + Eprint), i: usize) -> io::Result<()> {
+fn file(rt: &(impl Env + Files + Print + Eprint), i: usize) {
     let mut name = [0u8; 4096];
     let length = argument(rt, i, &mut name);
-    let path = text(&name[..length])?;
-    match fs::open(rt, path) {
-        Ok(mut file) => {
-            let s = read_through(&mut file)?;
-            say(rt, path, s)
+    if let Some(path) = text(rt, &name[..length]) {
+        match fs::open(rt, path) {
+            Ok(mut file) => {
+                let s = read_through(&mut file);
+                say(rt, path, s);
+            }
+            Err(error) => {
+                let _ = eprintln!(rt; "{path}: {error}");
+            }
         }
-        Err(error) => eprintln!(rt; "{path}: {error}"),
     }
 }
 
-fn say(rt: &impl Print, path: &str, s: Reading) -> io::Result<()> {
-    if s.equal < s.lines {
+fn say(rt: &impl Print, path: &str, s: Reading) {
+    let _ = if s.equal < s.lines {
         println!(rt; "{path} {} equal of {}", s.equal, s.lines)
     } else {
         println!(rt; "{path} {} equal", s.equal)
-    }
+    };
 }
 
-fn main(rt: HostRuntime) -> io::Result<()> {
+// A write that fails is left, so that the files after it are read all the same.
+fn main(rt: HostRuntime) {
     let n = argument_count(&rt);
     for i in 1..n {
-        file(&rt, i)?;
+        file(&rt, i);
     }
-    Ok(())
 }

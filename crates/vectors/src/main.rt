@@ -1,11 +1,11 @@
 // Replays stored house files. The arguments are pairs: a house file, and the Rust's answer to it. For each pair, whether the port's answer has the same bytes.
 #![tactic(auto)]
 
-ghost use Rattle.std.specs.Prelude.{◌≡◌, true, ◌+◌, ◌≤◌, ◌<◌, length, IfOk};
+ghost use Rattle.std.specs.Prelude.{◌≡◌, true, ◌+◌, ◌≤◌, ◌<◌, length};
 
 use std::env::{Env, FillError};
 use std::fs::{self, Files};
-use std::io::{self, Error, ErrorKind, Read};
+use std::io::Read;
 use std::str;
 
 // Says `true` only of the same bytes.
@@ -25,19 +25,19 @@ fn equal(a: &[u8], b: &[u8]) -> bool
     true
 }
 
-// Reads until buf is full or the input ends, since one read may give fewer bytes than there are. Returns how many bytes it put at the start of buf.
-fn read_full<R: Read>(input: &mut R, buf: &mut [u8]) -> io::Result<usize>
-    ensures { IfOk result (λ n. n ≤ length buf.new) }
+// Reads until buf is full, the input ends or a read fails, since one read may give fewer bytes than there are. Returns how many bytes it put at the start of buf.
+fn read_full<R: Read>(input: &mut R, buf: &mut [u8]) -> usize
+    ensures { result ≤ length buf.new }
 {
     let mut done = 0;
     while done < buf.len() {
-        let n = input.read(&mut buf[done..])?;
-        if n == 0 {
-            return Ok(done);
+        match input.read(&mut buf[done..]) {
+            Ok(0) => return done,
+            Ok(n) => done += n,
+            Err(_) => return done,
         }
-        done += n;
     }
-    Ok(done)
+    done
 }
 
 // How many arguments there are, the program's own name among them.
@@ -61,43 +61,49 @@ fn argument(rt: &impl Env, i: usize, name: &mut [u8]) -> usize
     }
 }
 
-fn text(name: &[u8]) -> io::Result<&str> {
+// The name of a file as text: one that is not UTF-8 is said on standard error.
+fn text<'a>(rt: &impl Eprint, name: &'a [u8]) -> Option<&'a str> {
     match str::from_utf8(name) {
-        Ok(text) => Ok(text),
-        Err(_) => Err(Error::new(ErrorKind::InvalidData, "the name of a file is not UTF-8")),
-    }
-}
-
-// Reads the file that argument i names. One that cannot be opened is said on standard error, and counts as empty.
-fn load(rt: &(impl Env + Files + Eprint), i: usize, buf: &mut [u8]) -> io::Result<usize>
-    ensures { IfOk result (λ n. n ≤ length buf.new) }
-{
-    let mut name = [0u8; 4096];
-    let length = argument(rt, i, &mut name);
-    let path = text(&name[..length])?;
-    match fs::open(rt, path) {
-        Ok(mut file) => read_full(&mut file, buf),
-        Err(error) => {
-            eprintln!(rt; "{path}: {error}")?;
-            Ok(0)
+        Ok(text) => Some(text),
+        Err(_) => {
+            let _ = eprintln!(rt; "the name of a file is not UTF-8");
+            None
         }
     }
 }
 
-fn print_name(rt: &(impl Env + Print), i: usize) -> io::Result<()> {
+// Reads the file that argument i names. One that cannot be opened is said on standard error, and counts as empty.
+fn load(rt: &(impl Env + Files + Eprint), i: usize, buf: &mut [u8]) -> usize
+    ensures { result ≤ length buf.new }
+{
     let mut name = [0u8; 4096];
     let length = argument(rt, i, &mut name);
-    rt.write_all(&name[..length])
+    match text(rt, &name[..length]) {
+        None => 0,
+        Some(path) => match fs::open(rt, path) {
+            Ok(mut file) => read_full(&mut file, buf),
+            Err(error) => {
+                let _ = eprintln!(rt; "{path}: {error}");
+                0
+            }
+        },
+    }
 }
 
-fn one(rt: &(impl Env + Files + Eprint), i: usize, j: usize) -> io::Result<bool> {
+fn print_name(rt: &(impl Env + Print), i: usize) {
+    let mut name = [0u8; 4096];
+    let length = argument(rt, i, &mut name);
+    let _ = rt.write_all(&name[..length]);
+}
+
+fn one(rt: &(impl Env + Files + Eprint), i: usize, j: usize) -> bool {
     let mut file = [0u8; 8301];
-    let n = load(rt, i, &mut file)?;
+    let n = load(rt, i, &mut file);
     let mut stored = [0u8; 32769];
-    let s = load(rt, j, &mut stored)?;
+    let s = load(rt, j, &mut stored);
     let mut out = [0u8; 32768];
     let m = run::run(&file[..n], &mut out);
-    Ok(equal(&out[..m], &stored[..s]))
+    equal(&out[..m], &stored[..s])
 }
 
 fn counted(n: usize, one_more: bool) -> usize
@@ -107,29 +113,30 @@ fn counted(n: usize, one_more: bool) -> usize
     if one_more { n + 1 } else { n }
 }
 
-fn say(rt: &impl Print, same: bool) -> io::Result<()> {
-    if same {
+fn say(rt: &impl Print, same: bool) {
+    let _ = if same {
         println!(rt; " equal")
     } else {
         println!(rt; " DIFFERS")
-    }
+    };
 }
 
-fn summary(rt: &impl Print, files: usize, same: usize) -> io::Result<()> {
-    println!(rt; "{files} files, {same} equal")
+fn summary(rt: &impl Print, files: usize, same: usize) {
+    let _ = println!(rt; "{files} files, {same} equal");
 }
 
-fn main(rt: HostRuntime) -> io::Result<()> {
+// A write that fails is left, so that the files after it are read all the same.
+fn main(rt: HostRuntime) {
     let pairs = argument_count(&rt) / 2;
     let mut files = 0;
     let mut same = 0;
     while files < pairs {
         let i = 2 * files + 1;
-        print_name(&rt, i)?;
-        let equals = one(&rt, i, i + 1)?;
-        say(&rt, equals)?;
+        print_name(&rt, i);
+        let equals = one(&rt, i, i + 1);
+        say(&rt, equals);
         same = counted(same, equals);
         files += 1;
     }
-    summary(&rt, files, same)
+    summary(&rt, files, same);
 }
