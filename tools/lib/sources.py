@@ -26,7 +26,7 @@ class Item:
         self.kind, self.name, self.module, self.owner, self.path, self.visible = kind, name, module, owner, path, visible
         self.public = False
         self.exported = False
-        self.params = self.result = ""
+        self.params = self.result = self.generics = ""
         self.clauses = []  # (keyword, text) in order; the name that a clause may have is left out
         self.fields = ()
 
@@ -162,8 +162,9 @@ class Reader:
         return self.skip(found.end(), end)
 
     def function(self, item, at, end):
-        """Its parameters, result and clauses; the first block that no clause begins is its body."""
-        at = self.next(at, end, "(")
+        """Its type parameters, parameters, result and clauses; the first block that no clause begins is its body."""
+        start, at = at, self.next(at, end, "(")
+        item.generics = self.code[start:at].strip()
         close = self.close(at)
         item.params, at, first = self.text[at + 1:close - 1], close, True
         while True:

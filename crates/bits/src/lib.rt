@@ -4,23 +4,11 @@
 ghost use Rattle.std.specs.Prelude.{◌≡◌, cond, ◌<◌, get_or};
 ghost use Rattle.std.specs.Float.Ieee.{lt, of_bits, to_bits};
 ghost use Rattle.std.specs.Float.{binary64};
-ghost use Rattle.laws.specs.Floats.{abs_of, unsigned_of, finite, min_of, max_of};
+ghost use Rattle.laws.specs.Floats.{abs_of, unsigned_of, finite, positive, min_of, max_of};
 ghost use Rattle.bits.specs.Bytes.{u32_at, u64_at};
 
 // a where c holds, else b. Both are worked out, so that no jump is needed.
-pub fn pick(c: bool, a: f64, b: f64) -> f64
-    ensures { result ≡ cond c a b }
-{
-    if c { a } else { b }
-}
-
-pub fn pick_number(c: bool, a: u32, b: u32) -> u32
-    ensures { result ≡ cond c a b }
-{
-    if c { a } else { b }
-}
-
-pub fn pick_count(c: bool, a: usize, b: usize) -> usize
+pub fn pick<T: Copy>(c: bool, a: T, b: T) -> T
     ensures { result ≡ cond c a b }
 {
     if c { a } else { b }
@@ -45,7 +33,14 @@ pub fn magnitude(x: f64) -> f64
 pub fn is_finite(x: f64) -> bool
     ensures { result ≡ finite x }
 {
-    (x < 1.0 / 0.0) & (-(1.0 / 0.0) < x)
+    (x < f64::INFINITY) & (f64::NEG_INFINITY < x)
+}
+
+// Finite and above zero.
+pub fn is_positive(x: f64) -> bool
+    ensures { result ≡ positive x }
+{
+    is_finite(x) & (0.0 < x)
 }
 
 // Rust's f64::min: a NaN is passed over.
@@ -84,7 +79,7 @@ pub fn f64_of(bits: u64) -> f64
     ensures { result ≡ of_bits binary64 bits }
 {
     if 0x7ff0_0000_0000_0000 < bits % 0x8000_0000_0000_0000 {
-        return 0.0 / 0.0;
+        return f64::NAN;
     }
     f64::from_bits(bits)
 }
@@ -94,7 +89,7 @@ fn byte_at(s: &[u8], at: usize) -> u64
     ensures value { result ≡ get_or s.now at 0 }
     ensures upper_bound { result < 256 }
 {
-    if at < s.len() { s[at] as u64 } else { 0 }
+    s.get(at).copied().unwrap_or(0) as u64
 }
 
 // The four bytes from an index, the low byte first.

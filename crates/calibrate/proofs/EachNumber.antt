@@ -12,12 +12,13 @@ use Rattle.laws.proofs.Choices.{if_false}
 use Rattle.slice.specs.declared.SviSlice.{SviSlice}
 use Rattle.slice.specs.Slice.{number_of}
 use Rattle.moves.specs.declared.Search.{Search}
+use Rattle.moves.specs.Moves.{is_refused}
 use Rattle.weights.specs.Weights.{capped_of}
 use Rattle.records.specs.declared.FitConfig.{FitConfig}
 use Rattle.records.specs.declared.FitAnswer.{FitAnswer}
+use Rattle.records.specs.Answer.{refused_with}
 use Rattle.judge.specs.declared.Sums.{Sums}
 use Rattle.entry.specs.Entry.{range_of, entry_number}
-use Rattle.records.specs.Answer.{refused_with}
 use Rattle.judge.specs.Judge.{sums_of, params_hold, rmse_of, rmse_holds}
 use Rattle.calibrate.specs.End.{accepted_of, end_of}
 use Rattle.calibrate.specs.Fit.{a_max_for, fit_search, scaled_for, slice_from, best_end, search_end, decided_of, refused_early, capped_as, fit_of}
@@ -44,7 +45,7 @@ module _ (tau : Float) (c : FitConfig) (ks ws weights : List Float) where
   -- 6, 7, 8, 9, or 0
   unfoldable pub late_number : ℕ
   late_number =
-      cond found.refused 6
+      cond (is_refused found) 6
       (cond found.found.on_edge 7
       (unless (eqb (number_of fitted) 0) 8
       (unless (params_hold c (a_max_for c ws) found.found.cell.objective sums) 8
@@ -56,8 +57,8 @@ module _ (tau : Float) (c : FitConfig) (ks ws weights : List Float) where
   late_number_lem =
       let n : FitAnswer → ℕ = λ a. a.number in
       let o = found.found.cell.objective in
-      of_cond n found.refused _ _
-      ∙ ap (cond found.refused 6)
+      of_cond n (is_refused found) _ _
+      ∙ ap (cond (is_refused found) 6)
       (of_cond n found.found.on_edge _ _
       ∙ ap (cond found.found.on_edge 7)
       (of_cond n (eqb (number_of fitted) 0) _ _

@@ -3,15 +3,20 @@ use mathlib.Core.Path.{◌≡◌, refl, ap, ◌∙◌}
 use mathlib.Core.List.{List, [], ◌∷◌, ◌++◌, append_assoc}
 use Prim.Native.Nat.{ℕ, ◌+◌, ◌*◌, ◌≤◌, ◌<◌}
 use native.Mathlib.Omega.{arith}
-use lib.ListN.{length, drop, set, length-set, length-append}
+use lib.ListN.{length, get_or, drop, set, length-set, length-append}
 use lib.Ieee.{Float, nan}
+use native.Mathlib.Nat.{zero-add}
+use Rattle.std.specs.List.{zip, enumerate_from}
+use Rattle.std.proofs.lemmas.List.{get_or_default}
+use Rattle.std.proofs.lemmas.List.FromFn.{length-enumerate_from, get_or-enumerate_from}
+use Rattle.std.proofs.lemmas.Slice.Zip.{length-zip, get_or-zip}
 use Rattle.laws.specs.Loop.{turns, for}
 use Rattle.laws.specs.Floats.{at}
 use Rattle.laws.proofs.Loops.{for_ind, for_next}
 use Rattle.laws.proofs.Rooms.{put_next}
 use Rattle.slice.specs.declared.SviSlice.{SviSlice}
 use Rattle.judge.specs.declared.Residual.{Residual}
-use Rattle.judge.specs.Judge.{residual_at}
+use Rattle.judge.specs.Judge.{fitted_in, residual_at}
 use Rattle.calibrate.specs.Fit.{residuals_of}
 
 regroup : (p : List Float) (a b c d : Float) → (((p ++ (a ∷ [])) ++ (b ∷ [])) ++ (c ∷ [])) ++ (d ∷ []) ≡ p ++ (a ∷ b ∷ c ∷ d ∷ [])
@@ -35,7 +40,7 @@ put_four p o n a b c d e l =
 module _ (s : SviSlice) (ks ws : List Float) where
   -- the four numbers of observation i, and the rows of the first i
   abbrev row : ℕ → List Float
-  row i = at ks i ∷ at ws i ∷ (residual_at s (at ks i) (at ws i)).fitted ∷ (residual_at s (at ks i) (at ws i)).vol ∷ []
+  row i = at ks i ∷ at ws i ∷ fitted_in (residual_at s (at ks i) (at ws i)).fitted ∷ (residual_at s (at ks i) (at ws i)).vol ∷ []
 
   abbrev pub rows_to : ℕ → List Float
   rows_to i = for 0 i (λ i l. l ++ row i) []
@@ -55,7 +60,7 @@ module _ (s : SviSlice) (ks ws : List Float) where
   rows_start o = record { within = omega arith; long = refl; is = refl }
 
   pub rows_next : (i : ℕ) (o out : List Float) (r : Residual) → i < length ks → length ks * 4 ≤ length o → r ≡ residual_at s (at ks i) (at ws i) → Rows i o out
-      → Rows (i + 1) o (set (set (set (set out (i * 4) (at ks i)) (i * 4 + 1) (at ws i)) (i * 4 + 2) r.fitted) (i * 4 + 3) r.vol)
+      → Rows (i + 1) o (set (set (set (set out (i * 4) (at ks i)) (i * 4 + 1) (at ws i)) (i * 4 + 2) (fitted_in r.fitted)) (i * 4 + 3) r.vol)
   rows_next i o out r l m e h =
       let k : (i + 1) * 4 ≡ i * 4 + 4 = omega arith in
       record {
@@ -63,14 +68,25 @@ module _ (s : SviSlice) (ks ws : List Float) where
         long = simp length-set h.long;
         is =
             rw (k, h.is, e, for_next (λ i l. l ++ row i) [] i)
-            (put_four (rows_to i) o (i * 4) (at ks i) (at ws i) (residual_at s (at ks i) (at ws i)).fitted (residual_at s (at ks i) (at ws i)).vol (rows_length i) (omega arith));
+            (put_four (rows_to i) o (i * 4) (at ks i) (at ws i) (fitted_in (residual_at s (at ks i) (at ws i)).fitted) (residual_at s (at ks i) (at ws i)).vol (rows_length i) (omega arith));
       }
 
-  pub rows_end : (i : ℕ) (o out : List Float) → length ks ≤ i → Rows i o out → out ≡ residuals_of s ks ws ++ drop (length ks * 4) o
+  -- the loop over the observations: how many turns it has, and what it has in its turn
+  pub all_turned : length ws ≡ length ks → length (enumerate_from 0 (zip ks ws)) ≡ length ks
+  all_turned e = length-enumerate_from 0 (zip ks ws) ∙ length-zip ks ws ∙ omega (arith, e)
+
+  pub turned : (k i : ℕ) (x y : Float) → length ws ≡ length ks → (k < length (enumerate_from 0 (zip ks ws))) × ((i, (x, y)) ≡ get_or (enumerate_from 0 (zip ks ws)) k (i, (x, y)))
+      → (k < length ks) × (i ≡ k) × (x ≡ at ks k) × (y ≡ at ws k)
+  turned k i x y e t =
+      let h : k < length ks = rw (all_turned e) at t.0 in
+      let g : k < length ws = omega (arith, h, e) in
+      let z : k < length (zip ks ws) = rw (length-enumerate_from 0 (zip ks ws)) at t.0 in
+      let q : (i, (x, y)) ≡ (0 + k, (get_or ks k x, get_or ws k y)) = t.1 ∙ get_or-enumerate_from 0 (zip ks ws) k (i, (x, y)) z ∙ ap (λ (p : Float × Float). (0 + k, p)) (get_or-zip ks ws k (x, y) h g) in
+      (h, ap (λ (p : ℕ × (Float × Float)). p.0) q ∙ zero-add k, ap (λ (p : ℕ × (Float × Float)). p.1.0) q ∙ get_or_default ks k x nan h, ap (λ (p : ℕ × (Float × Float)). p.1.1) q ∙ get_or_default ws k y nan g)
+
+  pub rows_end : (i : ℕ) (o out : List Float) → i ≡ length ks → Rows i o out → out ≡ residuals_of s ks ws ++ drop (length ks * 4) o
   unfolding residuals_of
-  rows_end i o out l h =
-      let e : i ≡ length ks = omega (arith, l, h.within) in
-      h.is ∙ ap (λ (k : ℕ). rows_to k ++ drop (k * 4) o) e
+  rows_end i o out e h = h.is ∙ ap (λ (k : ℕ). rows_to k ++ drop (k * 4) o) e
 
   pub residuals_length : length (residuals_of s ks ws) ≡ length ks * 4
   unfolding residuals_of

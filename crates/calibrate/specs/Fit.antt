@@ -16,14 +16,15 @@ use Rattle.moves.specs.declared.Plan.{Plan}
 use Rattle.records.specs.declared.Counts.{Counts}
 use Rattle.moves.specs.declared.Found.{Found}
 use Rattle.moves.specs.declared.Search.{Search}
+use Rattle.moves.specs.Moves.{is_refused}
 use Rattle.search.specs.Search.{search_of}
 use Rattle.search.specs.Run.{fit_cell}
 use Rattle.records.specs.declared.FitConfig.{FitConfig}
 use Rattle.records.specs.declared.FitAnswer.{FitAnswer}
-use Rattle.entry.specs.Entry.{range_of, entry_number}
 use Rattle.records.specs.Answer.{no_counts, refused_with, refused_after}
+use Rattle.entry.specs.Entry.{range_of, entry_number}
 use Rattle.calibrate.specs.End.{marks_at, slice_of, end_of}
-use Rattle.judge.specs.Judge.{residual_at, highest_of}
+use Rattle.judge.specs.Judge.{fitted_in, residual_at, highest_of}
 
 -- ---- the search: m from k_min - R to k_max + R, ln sigma from ln (sigma_lo R) to ln (sigma_hi R), R = k_max - k_min
 
@@ -95,7 +96,7 @@ best_end tau c range a_max best counts ks ws weights =
 -- 6, no qualifying face in some pass; 7, the best point on any edge of its pass's grid
 unfoldable pub search_end : Float → FitConfig → KRange → Float → Search → List Float → List Float → List Float → FitAnswer
 search_end tau c range a_max s ks ws weights =
-    cond s.refused (refused_after 6 s.counts)
+    cond (is_refused s) (refused_after 6 s.counts)
     (cond s.found.on_edge (refused_after 7 s.counts)
     (best_end tau c range a_max s.found s.counts ks ws weights))
 
@@ -141,7 +142,7 @@ fit_of tau c ks ws weights room slots =
 unfoldable pub residuals_of : SviSlice → List Float → List Float → List Float
 residuals_of s ks ws =
     for 0 (length ks)
-    (λ i l. let r = residual_at s (at ks i) (at ws i) in l ++ (at ks i ∷ at ws i ∷ r.fitted ∷ r.vol ∷ [])) []
+    (λ i l. let r = residual_at s (at ks i) (at ws i) in l ++ (at ks i ∷ at ws i ∷ fitted_in r.fitted ∷ r.vol ∷ [])) []
 
 -- the contract of `fit_slice`: the answer r; an accepted one writes its residuals and its capped positions, a refusal nothing
 pub record Fitted

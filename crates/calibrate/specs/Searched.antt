@@ -3,6 +3,7 @@
 use Rattle.std.specs.Prelude.{◌≡◌, true, false, List, ◌≤◌, Float}
 use Rattle.records.specs.declared.Counts.{Counts}
 use Rattle.moves.specs.declared.Search.{Search}
+use Rattle.moves.specs.Moves.{is_refused}
 use Rattle.search.specs.Promised.{Promised}
 use Rattle.search.specs.Run.{fit_cell, fit_face, fit_updates}
 use Rattle.records.specs.declared.FitConfig.{FitConfig}
@@ -14,7 +15,7 @@ use Rattle.calibrate.specs.Fit.{scaled_for, limits_for, plan_for, a_max_for, sea
 
 pub record FromFound (tau : Float) (c : FitConfig) (ks ws : List Float) (s : Search) (a : FitAnswer) : Type 0 where
   -- the search did not refuse, and its best point is on no edge of its pass's grid
-  pub found : s.refused ≡ false
+  pub found : is_refused s ≡ false
   pub inside : s.found.on_edge ≡ false
   -- the objective is the chosen face's
   pub objective : a.objective ≡ s.found.cell.objective
@@ -33,8 +34,8 @@ pub record Searched (tau : Float) (c : FitConfig) (ks ws weights : List Float) (
       Promised (fit_cell ks ws (scaled_for c weights) (limits_for c ws)) (fit_face ks ws (scaled_for c weights) (limits_for c ws)) (fit_updates ks ws (scaled_for c weights) (limits_for c ws)) 64 3438 (plan_for c ks)
       (search_for c ks ws weights)
   -- 6 where the search refuses, and only there
-  pub refuses : (search_for c ks ws weights).refused ≡ true → a.number ≡ 6
-  pub refused : a.number ≡ 6 → (search_for c ks ws weights).refused ≡ true
+  pub refuses : is_refused (search_for c ks ws weights) ≡ true → a.number ≡ 6
+  pub refused : a.number ≡ 6 → is_refused (search_for c ks ws weights) ≡ true
   -- an accepted answer is made from the face chosen
   pub accepted : a.number ≡ 0 → FromFound tau c ks ws (search_for c ks ws weights) a
 

@@ -10,10 +10,10 @@ use Rattle.search.specs.Search.{CellFn, cell_at, after_passes}
 use Rattle.search.specs.Run.{fit_cell}
 use Rattle.records.specs.declared.FitConfig.{FitConfig}
 use Rattle.records.specs.declared.FitAnswer.{FitAnswer}
+use Rattle.records.specs.Answer.{no_counts, refused_with}
 use Rattle.entry.specs.When.{EntryFails}
 use Rattle.judge.specs.When.{rmse_at, OutOfDomain, RmseAboveMax}
 use Rattle.entry.specs.Entry.{range_of}
-use Rattle.records.specs.Answer.{no_counts, refused_with}
 use Rattle.calibrate.specs.Fit.{a_max_for, limits_for, plan_for, fit_search, scaled_for, search_for, slice_from}
 
 -- ---- the search, for scaled weights

@@ -2,10 +2,12 @@
 ghost use Rattle.std.specs.Prelude.{◌≡◌, length};
 ghost use Rattle.calibrate.specs.End.{accepted_of, end_of};
 ghost use Rattle.calibrate.specs.Fit.{best_end, search_end};
+ghost use Rattle.records.specs.Answer.{accepted_answer, answer_in};
 
 use crate::params;
 use moves::{Found, Search};
-use records::{Counts, FitAnswer, FitConfig};
+use records::{Counts, FitConfig, FitFailure, SliceFit};
+use refusals::Refusal;
 use slice::{KRange, SviSlice};
 
 // ---- the answer
@@ -18,17 +20,13 @@ fn accepted(
     s: SviSlice,
     params: f64,
     rmse: f64,
-) -> FitAnswer
-    ensures { result ≡ accepted_of config counts objective active s params rmse }
+) -> SliceFit
+    ensures { accepted_answer result ≡ accepted_of config counts objective active s params rmse }
 {
     let steep = slice::lee(s);
-    FitAnswer {
-        number: 0,
-        observed: 0,
-        required: 0,
-        rmse_vol: rmse,
-        max_rmse_vol: 0.0,
+    SliceFit {
         slice: s,
+        rmse_vol: rmse,
         objective,
         objective_params: params,
         lee_margin: SviSlice::LEE_SLOPE_BOUND - steep,
@@ -39,91 +37,80 @@ fn accepted(
     }
 }
 
-// 8, 9, or an accepted fit.
-fn end(
-    config: FitConfig,
-    counts: Counts,
-    a_max: f64,
-    objective: f64,
-    active: [bool; 7],
-    s: SviSlice,
-    k: &[f64],
-    w: &[f64],
-    weights: &[f64],
-) -> FitAnswer
-    requires { (length w.now ≡ length k.now) × (length weights.now ≡ length k.now) }
-    ensures { result ≡ end_of config counts a_max objective active s k.now w.now weights.now }
-{
-    let bad = slice::number(s);
-    if bad != 0 {
-        return records::refusal(8, 0, 0, 0.0, 0.0, counts);
-    }
-    let t = judge::sums_of(s, k, w, weights);
-    let near = judge::params_hold(config, a_max, objective, t);
-    if !near {
-        return records::refusal(8, 0, 0, 0.0, 0.0, counts);
-    }
-    let rmse = judge::rmse_of(t, k.len());
-    let small = judge::rmse_holds(config, rmse);
-    if !small {
-        return records::refusal(9, 0, 0, rmse, config.max_rmse_vol, counts);
-    }
-    accepted(config, counts, objective, active, s, t.params, rmse)
+// What a fit decides on, once its search is over; each observation has its w and its weight.
+#[derive(Clone, Copy)]
+pub(crate) struct Fitting<'a> {
+    pub(crate) tau: f64,
+    pub(crate) config: FitConfig,
+    pub(crate) range: KRange,
+    pub(crate) a_max: f64,
+    pub(crate) k: &'a [f64],
+    pub(crate) w: &'a [f64],
+    pub(crate) weights: &'a [f64],
+    ghost matched: { (length w.now ≡ length k.now) × (length weights.now ≡ length k.now) },
 }
 
-fn best_end(
-    tau: f64,
-    config: FitConfig,
-    range: KRange,
-    a_max: f64,
-    best: Found,
-    counts: Counts,
-    k: &[f64],
-    w: &[f64],
-    weights: &[f64],
-) -> FitAnswer
-    requires { (length w.now ≡ length k.now) × (length weights.now ≡ length k.now) }
-    ensures { result ≡ best_end tau config range a_max best counts k.now w.now weights.now }
-{
-    let cell = best.cell;
-    let x = cell.x;
-    let sigma = exponent::exp(best.ls);
-    let active = params::marks_at(config, a_max, sigma, cell);
-    let s = params::slice_of(tau, range, active, x, best.m, sigma, config.a_min, a_max);
-    end(
-        config,
-        counts,
-        a_max,
-        cell.objective,
-        active,
-        s,
-        k,
-        w,
-        weights,
-    )
-}
+impl<'a> Fitting<'a> {
+    // 8, 9, or an accepted fit.
+    fn end(
+        self,
+        counts: Counts,
+        objective: f64,
+        active: [bool; 7],
+        s: SviSlice,
+    ) -> Result<SliceFit, FitFailure>
+        ensures { answer_in result ≡ end_of self.entry.config counts self.entry.a_max objective active s self.entry.k.now self.entry.w.now self.entry.weights.now }
+    {
+        if slice::check(s).is_err() {
+            return Err(FitFailure::after(Refusal::OutOfDomain, counts));
+        }
+        let t = judge::sums_of(s, self.k, self.w, self.weights);
+        if !judge::params_hold(self.config, self.a_max, objective, t) {
+            return Err(FitFailure::after(Refusal::OutOfDomain, counts));
+        }
+        let rmse = judge::rmse_of(t, self.k.len());
+        if !judge::rmse_holds(self.config, rmse) {
+            return Err(FitFailure {
+                why: Refusal::Rmse,
+                observed: 0,
+                required: 0,
+                rmse_vol: rmse,
+                max_rmse_vol: self.config.max_rmse_vol,
+                counts,
+            });
+        }
+        Ok(accepted(self.config, counts, objective, active, s, t.params, rmse))
+    }
 
-// 6, 7, or the end at the best cell.
-pub(crate) fn search_end(
-    tau: f64,
-    config: FitConfig,
-    range: KRange,
-    a_max: f64,
-    s: Search,
-    k: &[f64],
-    w: &[f64],
-    weights: &[f64],
-) -> FitAnswer
-    requires { (length w.now ≡ length k.now) × (length weights.now ≡ length k.now) }
-    ensures { result ≡ search_end tau config range a_max s k.now w.now weights.now }
-{
-    let counts = s.counts;
-    if s.refused {
-        return records::refusal(6, 0, 0, 0.0, 0.0, counts);
+    fn best_end(self, best: Found, counts: Counts) -> Result<SliceFit, FitFailure>
+        ensures { answer_in result ≡ best_end self.entry.tau self.entry.config self.entry.range self.entry.a_max best counts self.entry.k.now self.entry.w.now self.entry.weights.now }
+    {
+        let cell = best.cell;
+        let sigma = exponent::exp(best.ls);
+        let active = params::marks_at(self.config, self.a_max, sigma, cell);
+        let s = params::slice_of(
+            self.tau,
+            self.range,
+            active,
+            cell.x,
+            best.m,
+            sigma,
+            self.config.a_min,
+            self.a_max,
+        );
+        self.end(counts, cell.objective, active, s)
     }
-    let best = s.found;
-    if best.on_edge {
-        return records::refusal(7, 0, 0, 0.0, 0.0, counts);
+
+    // 6, 7, or the end at the best cell.
+    pub(crate) fn search_end(self, s: Search) -> Result<SliceFit, FitFailure>
+        ensures { answer_in result ≡ search_end self.entry.tau self.entry.config self.entry.range self.entry.a_max s self.entry.k.now self.entry.w.now self.entry.weights.now }
+    {
+        if s.stage.was_refused() {
+            return Err(FitFailure::after(Refusal::NoFace, s.counts));
+        }
+        if s.found.on_edge {
+            return Err(FitFailure::after(Refusal::GridEdge, s.counts));
+        }
+        self.best_end(s.found, s.counts)
     }
-    best_end(tau, config, range, a_max, best, counts, k, w, weights)
 }

@@ -6,12 +6,16 @@ mod params;
 mod writing;
 
 ghost use Rattle.std.specs.Prelude.{◌≡◌};
-ghost use Rattle.calibrate.specs.Fit.{half_of, plan_of, limits_of, decided_of, refused_early, capped_as, Fitted};
+ghost use Rattle.calibrate.specs.Fit.{half_of, plan_of, limits_of, decided_of, refused_early, Fitted};
 ghost use Rattle.entry.specs.Sized.{Sized};
+ghost use Rattle.records.specs.Answer.{failure_answer, answer_in};
+ghost use Rattle.refusals.specs.Numbers.{refusal_number};
 
 use cell::Limits;
+use ending::Fitting;
 use moves::{Axis, Plan, Window};
-use records::{FitAnswer, FitConfig};
+use records::{Counts, FitConfig, FitFailure, SliceFit};
+use refusals::Refusal;
 use slice::KRange;
 
 // ---- the search
@@ -57,39 +61,48 @@ fn limits_of(config: FitConfig, a_max: f64) -> Limits
 }
 
 // The whole answer of a fit that passed the entry checks, but for its capped positions. Nothing is written here.
-fn decided(tau: f64, config: FitConfig, k: &[f64], w: &[f64], weights: &[f64]) -> FitAnswer
+fn decided(
+    tau: f64,
+    config: FitConfig,
+    k: &[f64],
+    w: &[f64],
+    weights: &[f64],
+) -> Result<SliceFit, FitFailure>
     requires { Sized config k.now w.now weights.now }
-    ensures { result ≡ decided_of tau config k.now w.now weights.now }
+    ensures { answer_in result ≡ decided_of tau config k.now w.now weights.now }
 {
     let range = entry::range_of(k);
     let a_max = judge::highest(w, config.a_min);
     let plan = plan_of(config, range);
     let limits = limits_of(config, a_max);
     let s = search::run(k, w, weights, limits, plan);
-    ending::search_end(tau, config, range, a_max, s, k, w, weights)
+    let fitting = Fitting {
+        tau,
+        config,
+        range,
+        a_max,
+        k,
+        w,
+        weights,
+    };
+    fitting.search_end(s)
 }
 
 // ---- the entry
 
-fn refused_early(number: u32, given: usize, wanted: usize) -> FitAnswer
-    ensures { result ≡ refused_early number given wanted }
+// A refusal by the entry checks; few observations are told with how many there are, and how many are wanted.
+fn refused_early(why: Refusal, given: usize, wanted: usize) -> FitFailure
+    ensures { failure_answer result ≡ refused_early (refusal_number why) given wanted }
 {
-    let few = number == 3;
-    records::refusal(
-        number,
-        bits::pick_count(few, given, 0),
-        bits::pick_count(few, wanted, 0),
-        0.0,
-        0.0,
-        records::no_counts(),
-    )
-}
-
-fn with_capped(mut a: FitAnswer, n: usize) -> FitAnswer
-    ensures { result ≡ capped_as a n }
-{
-    a.capped = n;
-    a
+    let few = why == Refusal::TooFew;
+    FitFailure {
+        why,
+        observed: bits::pick(few, given, 0),
+        required: bits::pick(few, wanted, 0),
+        rmse_vol: 0.0,
+        max_rmse_vol: 0.0,
+        counts: Counts::default(),
+    }
 }
 
 // Fits one slice at expiry tau (years). The answer is worked out first; only an accepted one is written.
@@ -101,27 +114,19 @@ pub fn fit_slice(
     weight: &[f64],
     residuals: &mut [f64],
     capped: &mut [usize],
-) -> FitAnswer
-    ensures { Fitted tau config k.now w.now weight.now residuals.old capped.old result residuals.new capped.new }
+) -> Result<SliceFit, FitFailure>
+    ensures { Fitted tau config k.now w.now weight.now residuals.old capped.old (answer_in result) residuals.new capped.new }
 {
-    let number = entry::checks(tau, config, k, w, weight, residuals.len(), capped.len());
-    if number != 0 {
-        return refused_early(number, k.len(), config.min_observations);
+    if let Err(why) = entry::checks(tau, config, k, w, weight, residuals.len(), capped.len()) {
+        return Err(refused_early(why, k.len(), config.min_observations));
     }
     let mut room = [0.0; 256];
     let scaled = weights::weights_of(weight, config.max_weight_ratio, &mut room);
-    let good = scaled.ok;
-    if !good {
-        return refused_early(5, 0, 0);
+    if !scaled.ok {
+        return Err(FitFailure::after(Refusal::Weights, Counts::default()));
     }
-    let n = weight.len();
-    let a = decided(tau, config, k, w, &room[..n]);
-    let bad = a.number;
-    if bad != 0 {
-        return a;
-    }
-    let s = a.slice;
-    writing::write_residuals(s, k, w, residuals);
+    let fit = decided(tau, config, k, w, &room[..weight.len()])?;
+    writing::write_residuals(fit.slice, k, w, residuals);
     let m = writing::list_capped(weight, scaled.cap, capped);
-    with_capped(a, m)
+    Ok(SliceFit { capped: m, ..fit })
 }

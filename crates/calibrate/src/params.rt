@@ -10,8 +10,8 @@ fn active_set(face: [bool; 7], g: &[f64; 21], h: &[f64; 7], x: &[f64; 3], slack:
     ensures { result ≡ active_of face g.now h.now x.now slack }
 {
     let mut t = face;
-    for i in 0..7 {
-        t[i] = t[i] | (slack <= polytope::dot(g, x, i) - h[i]);
+    for (i, h) in h.iter().enumerate() {
+        t[i] = t[i] | (slack <= polytope::dot(g, x, i) - *h);
     }
     t
 }

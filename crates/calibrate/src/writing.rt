@@ -10,12 +10,13 @@ pub(crate) fn write_residuals(s: SviSlice, k: &[f64], w: &[f64], out: &mut [f64]
     requires { (length w.now ≡ length k.now) × (length k.now * 4 ≤ length out.old) }
     ensures { out.new ≡ residuals_of s k.now w.now ++ drop (length k.now * 4) out.old }
 {
-    for i in 0..k.len() {
-        let r = judge::residual_at(s, k[i], w[i]);
+    for (i, (k, w)) in k.iter().zip(w).enumerate() {
+        let r = judge::residual_at(s, *k, *w);
         let j = i * 4;
-        out[j] = k[i];
-        out[j + 1] = w[i];
-        out[j + 2] = r.fitted;
+        // Stays: of chunks of out under zip no promise says what they leave.
+        out[j] = *k;
+        out[j + 1] = *w;
+        out[j + 2] = r.fitted.unwrap_or(0.0);
         out[j + 3] = r.vol;
     }
 }
@@ -26,8 +27,8 @@ pub(crate) fn list_capped(ws: &[f64], cap: f64, out: &mut [usize]) -> usize
     ensures { (result ≡ length (capped_at cap ws.now)) × (out.new ≡ capped_at cap ws.now ++ drop result out.old) }
 {
     let mut n = 0;
-    for i in 0..ws.len() {
-        if ws[i] > cap {
+    for (i, w) in ws.iter().enumerate() {
+        if *w > cap {
             out[n] = i;
             n += 1;
         }

@@ -19,7 +19,6 @@ use Rattle.faces.specs.declared.Face.{Face}
 use Rattle.cell.specs.declared.Model.{Model}
 use Rattle.cell.specs.declared.Limits.{Limits}
 use Rattle.cell.specs.declared.Normal.{Normal}
-use Rattle.cell.specs.declared.Point.{Point}
 use Rattle.cell.specs.declared.Tried.{Tried}
 use Rattle.cell.specs.declared.Cell.{Cell}
 use Rattle.faces.specs.Faces.{face_of, face_at}
@@ -93,15 +92,9 @@ module _ (b g h : List Float) (pivot scale slack : Float) (f : Face) (l : f.size
   work_none p = ap (λ (s : Solved). s.updates) (solution_none p)
 
   module _ (o : List Float → Float) where
-    try_under : positive scale ≡ true → try_of o (problem_in b g h pivot slack) f ≡ tried_of o (problem_in b g h (pivot *f scale) slack) f (system_answer b g h (pivot *f scale) f)
-    unfolding try_of tried_of met_of
+    pub try_under : positive scale ≡ true → try_of o (problem_in b g h pivot slack) f ≡ tried_of o (problem_in b g h pivot slack) f (system_answer b g h (pivot *f scale) f)
+    unfolding try_of
     try_under p = ap (tried_of o (problem_in b g h pivot slack) f) (solution_under p)
-
-    -- r is the candidate under that limit
-    pub try_at :
-        positive scale ≡ true → (r : Point) → tried_of o (problem_in b g h (pivot *f scale) slack) f (system_answer b g h (pivot *f scale) f) ≡ unless r.ok no_try (valued_of f r.x (o r.x))
-        → unless r.ok no_try (valued_of f r.x (o r.x)) ≡ try_of o (problem_in b g h pivot slack) f
-    try_at p r k = sym k ∙ sym (try_under p)
 
     pub try_none : positive scale ≡ false → try_of o (problem_in b g h pivot slack) f ≡ no_try
     unfolding try_of tried_of
@@ -133,18 +126,6 @@ judge_is f x v b = go (finite v)
   where
     go : (t : Bool) → cond (t && (not b.some || lt v b.objective)) (record { some = true; objective = v; x = x; face = f }) b
         ≡ cond ((cond t (record { some = true; objective = v; x = x; face = f }) no_try).some && (not b.some || lt (cond t (record { some = true; objective = v; x = x; face = f }) no_try).objective b.objective)) (cond t (record { some = true; objective = v; x = x; face = f }) no_try) b
-    go true = refl
-    go false = refl
-
--- nothing is better than nothing
-pub valued_first : (f : Face) (x : List Float) (v : Float) → pick_of (valued_of f x v) no_try ≡ valued_of f x v
-unfolding pick_of valued_of
-valued_first f x v = go (finite v)
-  where
-    some : Tried
-    some = record { some = true; objective = v; x = x; face = f }
-
-    go : (t : Bool) → pick_of (cond t some no_try) no_try ≡ cond t some no_try
     go true = refl
     go false = refl
 
@@ -205,6 +186,11 @@ try_ind P o p f none some = cond_ind P s.ok (cond_ind P (feasible_of p.g p.h p.n
     go : (b : Bool) → finite v ≡ b → P (cond b (record { some = true; objective = v; x = widened s.x; face = f }) no_try)
     go true e = some (widened s.x) v e
     go false e = none
+
+-- nothing is better than nothing
+pub try_first : (o : List Float → Float) (p : Problem) (f : Face) → pick_of (try_of o p f) no_try ≡ try_of o p f
+unfolding pick_of
+try_first o p f = try_ind (λ (t : Tried). pick_of t no_try ≡ t) o p f refl (λ x v e. refl)
 
 -- what does not qualify changes nothing
 pub passed_over : (t b : Tried) → t.some ≡ false → b ≡ pick_of t b

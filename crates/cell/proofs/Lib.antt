@@ -3,3 +3,4 @@ pub mod Cells
 pub mod Work
 pub mod Systems
 pub mod Scaling
+pub mod Defaults

@@ -2,9 +2,11 @@
 ghost use Rattle.std.specs.Prelude.{◌≡◌, ◌≤◌, ◌<◌, length};
 ghost use Rattle.laws.specs.Floats.{at};
 ghost use Rattle.laws.specs.Room.{filled_on};
-ghost use Rattle.cell.specs.Least.{y_of, line_of, with_observation, normal_equations, objective_of};
+ghost use Rattle.cell.specs.Least.{y_of, line_of, with_observation, normal_equations};
 ghost use Rattle.cell.specs.Shared.{doubled_of, line_at, lines_of};
+ghost use Rattle.cell.specs.Inner.{goal_of};
 
+use crate::data::Data;
 use crate::{Line, Normal};
 
 // (k - m) / sigma of each observation, where it is to stand.
@@ -12,11 +14,12 @@ pub(crate) fn fill_ys(ks: &[f64], m: f64, sigma: f64, ys: &mut [f64; 256])
     requires { length ks.now ≤ 256 }
     ensures { ys.new ≡ filled_on (length ks.now) (y_of ks.now m sigma) ys.old }
 {
-    for i in 0..ks.len() {
-        ys[i] = (ks[i] - m) / sigma;
+    for (i, k) in ks.iter().enumerate() {
+        ys[i] = (*k - m) / sigma;
     }
 }
 
+#[tactic(auto, unfolding(crate::specs::Least::line_of))]
 fn line_plus(l: Line, s: f64, y: f64, h: f64, w: f64) -> Line
     ensures { result ≡ line_of l s y h w }
 {
@@ -28,6 +31,7 @@ fn line_plus(l: Line, s: f64, y: f64, h: f64, w: f64) -> Line
     }
 }
 
+#[tactic(auto, unfolding(crate::specs::Least::with_observation))]
 fn added(n: Normal, t: f64, y: f64, h: f64, w: f64) -> Normal
     ensures { result ≡ with_observation n t y h w }
 {
@@ -35,24 +39,6 @@ fn added(n: Normal, t: f64, y: f64, h: f64, w: f64) -> Normal
     let d = line_plus(n.d, t * y, y, h, w);
     let c = line_plus(n.c, t * h, y, h, w);
     Normal { a, d, c }
-}
-
-// The normal equations.
-pub(crate) fn normal_sum(ys: &[f64; 256], hs: &[f64; 256], ws: &[f64], weights: &[f64]) -> Normal
-    requires { (length ws.now ≤ 256) × (length weights.now ≡ length ws.now) }
-    ensures { result ≡ normal_equations (at ys.now) (at hs.now) ws.now weights.now }
-{
-    let z = Line {
-        lin: 0.0,
-        q0: 0.0,
-        q1: 0.0,
-        q2: 0.0,
-    };
-    let mut n = Normal { a: z, d: z, c: z };
-    for i in 0..ws.len() {
-        n = added(n, weights[i], ys[i], hs[i], ws[i]);
-    }
-    n
 }
 
 // Twice the normal equations: the block of the systems of all faces.
@@ -98,21 +84,26 @@ pub(crate) fn lines(b: &[f64; 12]) -> Normal
     Normal { a, d, c }
 }
 
-// The weighted sum of squares at x, summed directly.
-pub(crate) fn objective(
-    ys: &[f64; 256],
-    hs: &[f64; 256],
-    ws: &[f64],
-    weights: &[f64],
-    x: &[f64; 3],
-) -> f64
-    requires { (length ws.now ≤ 256) × (length weights.now ≡ length ws.now) }
-    ensures { result ≡ objective_of (at ys.now) (at hs.now) ws.now weights.now x.now }
-{
-    let mut acc = 0.0;
-    for i in 0..ws.len() {
-        let r = x[0] + x[1] * ys[i] + x[2] * hs[i] - ws[i];
-        acc = acc + weights[i] * r * r;
+impl Data<'_> {
+    pub(crate) fn normal_equations(&self) -> Normal
+        ensures { result ≡ normal_equations (at self.now.ys.now) (at self.now.hs.now) self.now.ws.now self.now.weights.now }
+    {
+        let mut n = Normal::default();
+        for (i, w) in self.ws.iter().enumerate() {
+            n = added(n, self.weights[i], self.ys[i], self.hs[i], *w);
+        }
+        n
     }
-    acc
+
+    // The weighted sum of squares at x, summed directly.
+    pub(crate) fn objective(&self, x: &[f64; 3]) -> f64
+        ensures { result ≡ goal_of self.now x.now }
+    {
+        let mut acc = 0.0;
+        for (i, w) in self.ws.iter().enumerate() {
+            let r = x[0] + x[1] * self.ys[i] + x[2] * self.hs[i] - *w;
+            acc += self.weights[i] * r * r;
+        }
+        acc
+    }
 }

@@ -1,15 +1,7 @@
 // The scales of a cell's systems, each worked out once: that of the empty face is the largest magnitude of the block; every other face has a constraint with an entry of magnitude 1, and none of more.
 ghost use Rattle.std.specs.Prelude.{◌≡◌};
-ghost use Rattle.laws.specs.Floats.{positive};
 ghost use Rattle.solver.specs.Rows.{NotBelowZero};
 ghost use Rattle.cell.specs.Shared.{line_scale, empty_scale};
-
-// Whether a system of this scale is solved at all.
-pub(crate) fn positive(scale: f64) -> bool
-    ensures { result ≡ positive scale }
-{
-    bits::is_finite(scale) & (scale > 0.0)
-}
 
 // The largest of acc and three magnitudes. A -0 is not above +0, so its sign may stay.
 fn line_scale(acc: f64, x: f64, y: f64, z: f64) -> f64

@@ -10,11 +10,10 @@ use Rattle.laws.specs.Room.{at_front}
 use Rattle.laws.proofs.Rooms.{put_next}
 use Rattle.surface.specs.declared.types.Run.{Run}
 use Rattle.surface.specs.declared.types.ShortExpiryPolicy.{ShortExpiryPolicy}
-use Rattle.diagnostics.specs.declared.points.Seen.{Seen}
-use Rattle.diagnostics.specs.declared.points.Seen.TheVariants.{Good, Failed}
+use Rattle.diagnostics.specs.declared.points.Reading.{Reading}
+use Rattle.std.specs.Prelude.{Result, Ok, Err}
 use Rattle.diagnostics.specs.declared.report.DiagnosticsConfig.{DiagnosticsConfig}
 use Rattle.diagnostics.specs.declared.report.SurfaceDiagnostics.{SurfaceDiagnostics}
-use Rattle.diagnostics.specs.declared.report.Diagnosed.TheVariants.{Done}
 use Rattle.diagnostics.specs.Walk.{State, good_of, failed_of, failure_at, visit_of, fresh_of, walk_start, walk_of}
 use Rattle.diagnostics.specs.OnGrid.{failure_of, failures_on, seen_by}
 use Rattle.diagnostics.specs.Diagnostics.{report_of, diagnose_of}
@@ -40,14 +39,14 @@ put_three l o i a b c e h =
     ∙ put_next nan ((l ++ (a ∷ [])) ++ (b ∷ [])) o (3 * i + 2) (3 * i + 3) c q (omega arith) (omega arith)
     ∙ ap (λ (t : List Float). t ++ drop (3 * i + 3) o) (three_more l a b c)
 
-visit_put : (st : State) (x : Seen) (k tau : Float) (tol : DiagnosticsConfig) (l before : List Float) → 3 * st.walk.failed + 3 ≤ length before → Put l before st → Put (l ++ failure_of k tau x) before (visit_of st x k tau tol)
+visit_put : (st : State) (x : Result Reading ℕ) (k tau : Float) (tol : DiagnosticsConfig) (l before : List Float) → 3 * st.walk.failed + 3 ≤ length before → Put l before st → Put (l ++ failure_of k tau x) before (visit_of st x k tau tol)
 unfolding visit_of good_of failed_of failure_at
-visit_put st (Good g w v) k tau tol l before h p =
+visit_put st (Ok r) k tau tol l before h p =
     record {
       written = p.written ∙ ap (λ (t : List Float). at_front t before) (sym (append-nil l));
       long = ap length (append-nil l) ∙ p.long;
     }
-visit_put st (Failed n) k tau tol l before h p =
+visit_put st (Err n) k tau tol l before h p =
     let e : length (l ++ (k ∷ tau ∷ num n ∷ [])) ≡ 3 * st.walk.failed + 3 = length-append l (k ∷ tau ∷ num n ∷ []) ∙ ap (λ (q : ℕ). q + 3) p.long in
     record {
       written =
@@ -57,12 +56,12 @@ visit_put st (Failed n) k tau tol l before h p =
       long = omega (arith, e);
     }
 
-visit_few : (st : State) (x : Seen) (k tau : Float) (tol : DiagnosticsConfig) → (visit_of st x k tau tol).walk.failed ≤ st.walk.failed + 1
+visit_few : (st : State) (x : Result Reading ℕ) (k tau : Float) (tol : DiagnosticsConfig) → (visit_of st x k tau tol).walk.failed ≤ st.walk.failed + 1
 unfolding visit_of good_of failed_of
-visit_few st (Good g w v) k tau tol = omega arith
-visit_few st (Failed n) k tau tol = omega arith
+visit_few st (Ok r) k tau tol = omega arith
+visit_few st (Err n) k tau tol = omega arith
 
-module _ (run : Run) (policy : ShortExpiryPolicy) (ks taus : List Float) (tol : DiagnosticsConfig) (room : List Float) (d : SurfaceDiagnostics) (done : (diagnose_of run policy ks taus tol room).answer ≡ Done d) where
+module _ (run : Run) (policy : ShortExpiryPolicy) (ks taus : List Float) (tol : DiagnosticsConfig) (room : List Float) (d : SurfaceDiagnostics) (done : (diagnose_of run policy ks taus tol room).answer ≡ Ok d) where
   a : Accepted run policy ks taus tol room d
   a = accepted run policy ks taus tol room d done
 

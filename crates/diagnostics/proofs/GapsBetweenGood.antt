@@ -1,18 +1,16 @@
 -- A report of `diagnose`: the gap tally is exactly that of the neighbouring pairs of which neither failed, in walking order, each recorded at the earlier tau: no pair more, none less. Assumes nothing.
 use mathlib.Core.Path.{◌≡◌, refl, sym, ap, ◌∙◌}
-use mathlib.Core.Bool.{true}
 use mathlib.Core.List.{List, [], ◌∷◌, flat_map}
 use lib.Ieee.{Float}
 use Rattle.surface.specs.declared.types.Run.{Run}
 use Rattle.surface.specs.declared.types.ShortExpiryPolicy.{ShortExpiryPolicy}
 use Rattle.diagnostics.specs.declared.tally.DiagnosticPoint.{DiagnosticPoint}
 use Rattle.diagnostics.specs.declared.tally.Check.{Check}
-use Rattle.diagnostics.specs.declared.points.Seen.{Seen}
-use Rattle.diagnostics.specs.declared.points.Seen.TheVariants.{Good, Failed}
+use Rattle.diagnostics.specs.declared.points.Reading.{Reading}
+use Rattle.std.specs.Prelude.{ℕ, Option, Some, Result, Ok, Err}
 use Rattle.diagnostics.specs.declared.grid.Previous.{Previous}
 use Rattle.diagnostics.specs.declared.report.DiagnosticsConfig.{DiagnosticsConfig}
 use Rattle.diagnostics.specs.declared.report.SurfaceDiagnostics.{SurfaceDiagnostics}
-use Rattle.diagnostics.specs.declared.report.Diagnosed.TheVariants.{Done}
 use Rattle.diagnostics.specs.Recorded.{recorded_all, tally_of}
 use Rattle.diagnostics.specs.Walk.{State, walk_in, gap_of, good_of, failed_of, no_previous, visit_of, fresh_of, walk_start, taus_at, walk_of, PointFn}
 use Rattle.diagnostics.specs.OnGrid.{gap_between, pairs_from, over_pairs, gaps_on, seen_by}
@@ -21,26 +19,26 @@ use Rattle.diagnostics.proofs.Walking.{each, visit_turn, row_is, walk_is, accept
 use Rattle.diagnostics.proofs.TalliesInOrder.{recorded_on}
 
 -- what stands before the point after this one
-abbrev kept : Float → Seen → Previous
-kept tau (Good g w v) = record { found = true; tau = tau; w = w }
-kept tau (Failed n) = no_previous
+abbrev kept : Float → Result Reading ℕ → Option Previous
+kept tau (Ok r) = Some (record { tau = tau; w = r.w })
+kept tau (Err n) = no_previous
 
-visit_previous : (st : State) (x : Seen) (k tau : Float) (tol : DiagnosticsConfig) → (visit_of st x k tau tol).walk.previous ≡ kept tau x
+visit_previous : (st : State) (x : Result Reading ℕ) (k tau : Float) (tol : DiagnosticsConfig) → (visit_of st x k tau tol).walk.previous ≡ kept tau x
 unfolding visit_of good_of failed_of
-visit_previous st (Good g w v) k tau tol = refl
-visit_previous st (Failed n) k tau tol = refl
+visit_previous st (Ok r) k tau tol = refl
+visit_previous st (Err n) k tau tol = refl
 
-visit_first : (st : State) (x : Seen) (k tau : Float) (tol : DiagnosticsConfig) → st.walk.previous ≡ no_previous → (visit_of st x k tau tol).walk.gap ≡ st.walk.gap
-unfolding visit_of good_of failed_of gap_of
-visit_first st (Good g w v) k tau tol e = ap (λ (p : Previous). gap_of st.walk.gap p k w tol.calendar_tolerance) e
-visit_first st (Failed n) k tau tol e = refl
+visit_first : (st : State) (x : Result Reading ℕ) (k tau : Float) (tol : DiagnosticsConfig) → st.walk.previous ≡ no_previous → (visit_of st x k tau tol).walk.gap ≡ st.walk.gap
+unfolding visit_of good_of failed_of
+visit_first st (Ok r) k tau tol e = ap (λ (p : Option Previous). gap_of st.walk.gap p k r.w tol.calendar_tolerance) e
+visit_first st (Err n) k tau tol e = refl
 
-visit_next : (st : State) (x : Seen) (k tau : Float) (tol : DiagnosticsConfig) (y : Seen) (u : Float) → st.walk.previous ≡ kept u y → (visit_of st x k tau tol).walk.gap ≡ recorded_all st.walk.gap (gap_between k u y x) tol.calendar_tolerance
-unfolding visit_of good_of failed_of gap_of recorded_all
-visit_next st (Good g w v) k tau tol (Good g' w' v') u e = ap (λ (p : Previous). gap_of st.walk.gap p k w tol.calendar_tolerance) e
-visit_next st (Good g w v) k tau tol (Failed n) u e = ap (λ (p : Previous). gap_of st.walk.gap p k w tol.calendar_tolerance) e
-visit_next st (Failed n) k tau tol (Good g w v) u e = refl
-visit_next st (Failed n) k tau tol (Failed m) u e = refl
+visit_next : (st : State) (x : Result Reading ℕ) (k tau : Float) (tol : DiagnosticsConfig) (y : Result Reading ℕ) (u : Float) → st.walk.previous ≡ kept u y → (visit_of st x k tau tol).walk.gap ≡ recorded_all st.walk.gap (gap_between k u y x) tol.calendar_tolerance
+unfolding visit_of good_of failed_of recorded_all
+visit_next st (Ok r) k tau tol (Ok r') u e = ap (λ (p : Option Previous). gap_of st.walk.gap p k r.w tol.calendar_tolerance) e
+visit_next st (Ok r) k tau tol (Err n) u e = ap (λ (p : Option Previous). gap_of st.walk.gap p k r.w tol.calendar_tolerance) e
+visit_next st (Err n) k tau tol (Ok r) u e = refl
+visit_next st (Err n) k tau tol (Err m) u e = refl
 
 module _ (f : PointFn) (tol : DiagnosticsConfig) where
   abbrev t : Float
@@ -81,7 +79,7 @@ module _ (f : PointFn) (tol : DiagnosticsConfig) where
   unfolding walk_start
   walk_gaps ks axis room = ap (λ (s : State). s.walk.gap) (walk_is f tol ks axis room) ∙ rows_gaps axis ks (walk_in walk_start room)
 
-module _ (run : Run) (policy : ShortExpiryPolicy) (ks taus : List Float) (tol : DiagnosticsConfig) (room : List Float) (d : SurfaceDiagnostics) (done : (diagnose_of run policy ks taus tol room).answer ≡ Done d) where
+module _ (run : Run) (policy : ShortExpiryPolicy) (ks taus : List Float) (tol : DiagnosticsConfig) (room : List Float) (d : SurfaceDiagnostics) (done : (diagnose_of run policy ks taus tol room).answer ≡ Ok d) where
   pub gaps_between_good : d.calendar_gap ≡ tally_of (gaps_on (seen_by run policy) ks taus) tol.calendar_tolerance
   unfolding report_of
   gaps_between_good = ap (λ (d : SurfaceDiagnostics). d.calendar_gap) (accepted run policy ks taus tol room d done).report ∙ walk_gaps (seen_by run policy) tol ks taus room

@@ -12,22 +12,22 @@ use Rattle.laws.specs.Choice.{unless}
 use Rattle.surface.specs.declared.types.Run.{Run}
 use Rattle.surface.specs.declared.types.ShortExpiryPolicy.{ShortExpiryPolicy}
 use Rattle.diagnostics.specs.declared.report.DiagnosticsConfig.{DiagnosticsConfig}
-use Rattle.diagnostics.specs.declared.report.Diagnosed.TheVariants.{Refused}
+use Rattle.std.specs.Prelude.{Err}
 use Rattle.diagnostics.specs.Walk.{State}
 use Rattle.diagnostics.specs.Diagnostics.{with_room, reported, diagnose_number, diagnose_of, diagnosed_number}
 
-kept : (b : Bool) (m n : ℕ) (room : List Float) (st : State) → (unless b (with_room (Refused m) room) (reported st)).answer ≡ Refused n → (unless b (with_room (Refused m) room) (reported st)).room ≡ room
+kept : (b : Bool) (m n : ℕ) (room : List Float) (st : State) → (unless b (with_room (Err m) room) (reported st)).answer ≡ Err n → (unless b (with_room (Err m) room) (reported st)).room ≡ room
 unfolding reported
 kept true m n room st e = let z : ◌≡◌ {A = ℕ} 0 1 = cc in absurd (omega arith)
 kept false m n room st e = refl
 
-numbered : (b : Bool) (m : ℕ) (room : List Float) (st : State) → eqb m 0 ≡ b → diagnosed_number (unless b (with_room (Refused m) room) (reported st)).answer ≡ m
+numbered : (b : Bool) (m : ℕ) (room : List Float) (st : State) → eqb m 0 ≡ b → diagnosed_number (unless b (with_room (Err m) room) (reported st)).answer ≡ m
 unfolding reported
 numbered true m room st e = sym (eqb-true m 0 e)
 numbered false m room st e = refl
 
 module _ (run : Run) (policy : ShortExpiryPolicy) (ks axis : List Float) (tol : DiagnosticsConfig) (room : List Float) where
-  pub refusal_keeps_room : (n : ℕ) → (diagnose_of run policy ks axis tol room).answer ≡ Refused n → (diagnose_of run policy ks axis tol room).room ≡ room
+  pub refusal_keeps_room : (n : ℕ) → (diagnose_of run policy ks axis tol room).answer ≡ Err n → (diagnose_of run policy ks axis tol room).room ≡ room
   unfolding diagnose_of
   refusal_keeps_room n e = kept (eqb (diagnose_number run ks axis tol (length room)) 0) (diagnose_number run ks axis tol (length room)) n room _ e
 

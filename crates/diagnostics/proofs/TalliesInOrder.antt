@@ -7,11 +7,10 @@ use Rattle.surface.specs.declared.types.Run.{Run}
 use Rattle.surface.specs.declared.types.ShortExpiryPolicy.{ShortExpiryPolicy}
 use Rattle.diagnostics.specs.declared.tally.DiagnosticPoint.{DiagnosticPoint}
 use Rattle.diagnostics.specs.declared.tally.Check.{Check}
-use Rattle.diagnostics.specs.declared.points.Seen.{Seen}
-use Rattle.diagnostics.specs.declared.points.Seen.TheVariants.{Good, Failed}
+use Rattle.diagnostics.specs.declared.points.Reading.{Reading}
+use Rattle.std.specs.Prelude.{Result, Ok, Err}
 use Rattle.diagnostics.specs.declared.report.DiagnosticsConfig.{DiagnosticsConfig}
 use Rattle.diagnostics.specs.declared.report.SurfaceDiagnostics.{SurfaceDiagnostics}
-use Rattle.diagnostics.specs.declared.report.Diagnosed.TheVariants.{Done}
 use Rattle.diagnostics.specs.Tally.{point_at, recorded_of}
 use Rattle.diagnostics.specs.Recorded.{recorded_all, tally_of}
 use Rattle.diagnostics.specs.Walk.{State, good_of, failed_of, visit_of, fresh_of, walk_start}
@@ -33,17 +32,17 @@ module _ (l : List DiagnosticPoint) (t : Float) {c : Check} (e : c ≡ tally_of 
   none_more : c ≡ tally_of (l ++ []) t
   none_more = e ∙ ap (λ (l : List DiagnosticPoint). tally_of l t) (sym (append-nil l))
 
-butterfly_visit : (st : State) (x : Seen) (k tau : Float) (tol : DiagnosticsConfig) (l : List DiagnosticPoint) → st.walk.butterfly ≡ tally_of l tol.butterfly_tolerance → (visit_of st x k tau tol).walk.butterfly ≡ tally_of (l ++ butterfly_at k tau x) tol.butterfly_tolerance
+butterfly_visit : (st : State) (x : Result Reading ℕ) (k tau : Float) (tol : DiagnosticsConfig) (l : List DiagnosticPoint) → st.walk.butterfly ≡ tally_of l tol.butterfly_tolerance → (visit_of st x k tau tol).walk.butterfly ≡ tally_of (l ++ butterfly_at k tau x) tol.butterfly_tolerance
 unfolding visit_of good_of failed_of
-butterfly_visit st (Good g w v) k tau tol l e = one_more l tol.butterfly_tolerance e (point_at k tau g)
-butterfly_visit st (Failed n) k tau tol l e = none_more l tol.butterfly_tolerance e
+butterfly_visit st (Ok r) k tau tol l e = one_more l tol.butterfly_tolerance e (point_at k tau r.g)
+butterfly_visit st (Err n) k tau tol l e = none_more l tol.butterfly_tolerance e
 
-slope_visit : (st : State) (x : Seen) (k tau : Float) (tol : DiagnosticsConfig) (l : List DiagnosticPoint) → st.walk.slope ≡ tally_of l tol.calendar_tolerance → (visit_of st x k tau tol).walk.slope ≡ tally_of (l ++ slope_at k tau x) tol.calendar_tolerance
+slope_visit : (st : State) (x : Result Reading ℕ) (k tau : Float) (tol : DiagnosticsConfig) (l : List DiagnosticPoint) → st.walk.slope ≡ tally_of l tol.calendar_tolerance → (visit_of st x k tau tol).walk.slope ≡ tally_of (l ++ slope_at k tau x) tol.calendar_tolerance
 unfolding visit_of good_of failed_of
-slope_visit st (Good g w v) k tau tol l e = one_more l tol.calendar_tolerance e (point_at k tau v)
-slope_visit st (Failed n) k tau tol l e = none_more l tol.calendar_tolerance e
+slope_visit st (Ok r) k tau tol l e = one_more l tol.calendar_tolerance e (point_at k tau r.w_tau)
+slope_visit st (Err n) k tau tol l e = none_more l tol.calendar_tolerance e
 
-module _ (run : Run) (policy : ShortExpiryPolicy) (ks taus : List Float) (tol : DiagnosticsConfig) (room : List Float) (d : SurfaceDiagnostics) (done : (diagnose_of run policy ks taus tol room).answer ≡ Done d) where
+module _ (run : Run) (policy : ShortExpiryPolicy) (ks taus : List Float) (tol : DiagnosticsConfig) (room : List Float) (d : SurfaceDiagnostics) (done : (diagnose_of run policy ks taus tol room).answer ≡ Ok d) where
   pub butterfly_tally : d.butterfly ≡ tally_of (butterflies_on (seen_by run policy) ks taus) tol.butterfly_tolerance
   unfolding report_of walk_start fresh_of recorded_all
   butterfly_tally =

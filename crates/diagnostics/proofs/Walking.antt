@@ -19,7 +19,7 @@ use Rattle.surface.specs.declared.types.ShortExpiryPolicy.{ShortExpiryPolicy}
 use Rattle.surface.specs.Surface.{surface_grid_number}
 use Rattle.diagnostics.specs.declared.report.DiagnosticsConfig.{DiagnosticsConfig}
 use Rattle.diagnostics.specs.declared.report.SurfaceDiagnostics.{SurfaceDiagnostics}
-use Rattle.diagnostics.specs.declared.report.Diagnosed.TheVariants.{Done, Refused}
+use Rattle.std.specs.Prelude.{Ok, Err}
 use Rattle.diagnostics.specs.Walk.{State, walk_in, visit_of, fresh_of, walk_start, taus_at, walk_of, PointFn}
 use Rattle.diagnostics.specs.OnGrid.{over_grid, seen_by}
 use Rattle.diagnostics.specs.Diagnostics.{WithRoom, with_room, report_of, reported, tolerance_number, diagnose_number, diagnose_of}
@@ -97,7 +97,7 @@ module _ (run : Run) (policy : ShortExpiryPolicy) (ks axis : List Float) (tol : 
   walked = walk_of (seen_by run policy) tol ks axis room
 
   abbrev out : Bool → WithRoom
-  out b = unless b (with_room (Refused (diagnose_number run ks axis tol (length room))) room) (reported walked)
+  out b = unless b (with_room (Err (diagnose_number run ks axis tol (length room))) room) (reported walked)
 
   pub record Accepted : Type 0 where
     pub few : length ks * length axis ≤ 4096
@@ -112,11 +112,11 @@ module _ (run : Run) (policy : ShortExpiryPolicy) (ks axis : List Float) (tol : 
       let n = neither (ltb 64 (length ks)) (ltb 64 (length axis)) _ e in
       (ltb-false 64 (length ks) n.0, ltb-false 64 (length axis) n.1)
 
-  pub accepted : (diagnose_of run policy ks axis tol room).answer ≡ Done d → Accepted
+  pub accepted : (diagnose_of run policy ks axis tol room).answer ≡ Ok d → Accepted
   unfolding diagnose_of reported
   accepted h = go (eqb (diagnose_number run ks axis tol (length room)) 0) refl h refl
     where
-      go : (b : Bool) → eqb (diagnose_number run ks axis tol (length room)) 0 ≡ b → (out b).answer ≡ Done d → (diagnose_of run policy ks axis tol room).room ≡ (out b).room → Accepted
+      go : (b : Bool) → eqb (diagnose_number run ks axis tol (length room)) 0 ≡ b → (out b).answer ≡ Ok d → (diagnose_of run policy ks axis tol room).room ≡ (out b).room → Accepted
       go false e h r = let z : ◌≡◌ {A = ℕ} 0 1 = cc in absurd (omega arith)
       go true e h r =
           let z : diagnose_number run ks axis tol (length room) ≡ 0 = eqb-true (diagnose_number run ks axis tol (length room)) 0 e in

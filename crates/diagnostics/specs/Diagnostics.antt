@@ -1,6 +1,6 @@
 -- The diagnostics of a surface (diagnostics.rs: `DiagnosticsConfig`, `SurfaceDiagnostics`, `diagnose`): the tests in order, then the walk. Definitions only.
 -- docs/METHOD.md, 'Surfaces and diagnostics'.
-use Rattle.std.specs.Prelude.{Bool, ◌&&◌, cond, List, ℕ, ◌*◌, eqb, ltb, length, Float}
+use Rattle.std.specs.Prelude.{Bool, ◌&&◌, cond, List, ℕ, ◌*◌, eqb, ltb, length, Float, Result, Ok, Err}
 use Rattle.std.specs.Float.Ieee.{le}
 use Rattle.laws.specs.Choice.{unless, refusing}
 use Rattle.laws.specs.Floats.{f64, +0, finite}
@@ -11,8 +11,6 @@ use Rattle.surface.specs.Surface.{tols_of, surface_grid_number}
 use Rattle.diagnostics.specs.declared.grid.Walk.{Walk}
 use Rattle.diagnostics.specs.declared.report.DiagnosticsConfig.{DiagnosticsConfig}
 use Rattle.diagnostics.specs.declared.report.SurfaceDiagnostics.{SurfaceDiagnostics}
-use Rattle.diagnostics.specs.declared.report.Diagnosed.{Diagnosed}
-use Rattle.diagnostics.specs.declared.report.Diagnosed.TheVariants.{Done, Refused}
 use Rattle.diagnostics.specs.Tally.{is_clean}
 use Rattle.diagnostics.specs.Walk.{State, seen_on, walk_of}
 
@@ -44,22 +42,22 @@ report_clean d = ((is_clean d.butterfly && is_clean d.calendar_slope) && is_clea
 
 -- an answer, and what the lent room holds beside it
 pub record WithRoom : Type 0 where
-  pub answer : Diagnosed
+  pub answer : Result SurfaceDiagnostics ℕ
   pub room : List Float
 
-abbrev pub with_room : Diagnosed → List Float → WithRoom
+abbrev pub with_room : Result SurfaceDiagnostics ℕ → List Float → WithRoom
 with_room d room = record { answer = d; room = room }
 
 unfoldable pub reported : State → WithRoom
-reported st = with_room (Done (report_of st.walk)) st.room
+reported st = with_room (Ok (report_of st.walk)) st.room
 
 -- `diagnose`: a refusal leaves the room as it was
 unfoldable pub diagnose_of : Run → ShortExpiryPolicy → List Float → List Float → DiagnosticsConfig → List Float → WithRoom
 diagnose_of run policy ks taus tol room =
-    refusing (diagnose_number run ks taus tol (length room)) (λ n. with_room (Refused n) room)
+    refusing (diagnose_number run ks taus tol (length room)) (λ n. with_room (Err n) room)
     (reported (walk_of (seen_on run.recs (taus_of run.recs) (tols_of run) run.count policy) tol ks taus room))
 
 -- the number of an answer: 0 for a report
-abbrev pub diagnosed_number : Diagnosed → ℕ
-diagnosed_number (Done d) = 0
-diagnosed_number (Refused n) = n
+abbrev pub diagnosed_number : Result SurfaceDiagnostics ℕ → ℕ
+diagnosed_number (Ok d) = 0
+diagnosed_number (Err n) = n

@@ -1,41 +1,40 @@
 -- What a grid yields, point by point in walking order: k outside, tau inside. Definitions only.
 -- docs/METHOD.md, 'Surfaces and diagnostics'.
 use mathlib.Core.List.{List, [], ◌∷◌, ◌++◌, flat_map}
-use Rattle.std.specs.Prelude.{Float}
+use Rattle.std.specs.Prelude.{ℕ, Float, Result, Ok, Err}
 use Rattle.laws.specs.Floats.{◌-f◌, num}
 use Rattle.surface.specs.declared.types.Run.{Run}
 use Rattle.surface.specs.declared.types.ShortExpiryPolicy.{ShortExpiryPolicy}
 use Rattle.surface.specs.Runs.{taus_of}
 use Rattle.surface.specs.Surface.{tols_of}
 use Rattle.diagnostics.specs.declared.tally.DiagnosticPoint.{DiagnosticPoint}
-use Rattle.diagnostics.specs.declared.points.Seen.{Seen}
-use Rattle.diagnostics.specs.declared.points.Seen.TheVariants.{Good, Failed}
+use Rattle.diagnostics.specs.declared.points.Reading.{Reading}
 use Rattle.diagnostics.specs.Tally.{point_at}
 use Rattle.diagnostics.specs.Walk.{PointFn, seen_on}
 
 -- ---- one point, by what is seen there
 
 -- its butterfly value, where it did not fail
-abbrev pub butterfly_at : Float → Float → Seen → List DiagnosticPoint
-butterfly_at k tau (Good g w v) = point_at k tau g ∷ []
-butterfly_at k tau (Failed n) = []
+abbrev pub butterfly_at : Float → Float → Result Reading ℕ → List DiagnosticPoint
+butterfly_at k tau (Ok r) = point_at k tau r.g ∷ []
+butterfly_at k tau (Err n) = []
 
 -- its slope in tau, where it did not fail
-abbrev pub slope_at : Float → Float → Seen → List DiagnosticPoint
-slope_at k tau (Good g w v) = point_at k tau v ∷ []
-slope_at k tau (Failed n) = []
+abbrev pub slope_at : Float → Float → Result Reading ℕ → List DiagnosticPoint
+slope_at k tau (Ok r) = point_at k tau r.w_tau ∷ []
+slope_at k tau (Err n) = []
 
 -- its failure, three numbers: k, tau and the refusal's number
-abbrev pub failure_of : Float → Float → Seen → List Float
-failure_of k tau (Good g w v) = []
-failure_of k tau (Failed n) = k ∷ tau ∷ num n ∷ []
+abbrev pub failure_of : Float → Float → Result Reading ℕ → List Float
+failure_of k tau (Ok r) = []
+failure_of k tau (Err n) = k ∷ tau ∷ num n ∷ []
 
 -- the gap of two neighbours, at the earlier tau, where neither failed
-abbrev pub gap_between : Float → Float → Seen → Seen → List DiagnosticPoint
-gap_between k tau (Good g w v) (Good g' w' v') = point_at k tau (w' -f w) ∷ []
-gap_between k tau (Good g w v) (Failed n) = []
-gap_between k tau (Failed n) (Good g w v) = []
-gap_between k tau (Failed n) (Failed m) = []
+abbrev pub gap_between : Float → Float → Result Reading ℕ → Result Reading ℕ → List DiagnosticPoint
+gap_between k tau (Ok r) (Ok s) = point_at k tau (s.w -f r.w) ∷ []
+gap_between k tau (Ok r) (Err n) = []
+gap_between k tau (Err n) (Ok r) = []
+gap_between k tau (Err n) (Err m) = []
 
 -- ---- a grid
 

@@ -1,17 +1,15 @@
 -- The walk over a grid (diagnostics.rs: `butterfly_g`, the loops of `diagnose`). Every operation is rounded once, in the order written. Definitions only.
 -- docs/METHOD.md, 'Surfaces and diagnostics'.
-use Rattle.std.specs.Prelude.{true, false, cond, List, ℕ, ◌+◌, ◌*◌, set, length, Float}
+use Rattle.std.specs.Prelude.{List, ℕ, ◌+◌, ◌*◌, set, length, Float, Option, Some, None, Result, Ok, Err}
 use Rattle.laws.specs.Choice.{unless}
-use Rattle.laws.specs.Floats.{◌+f◌, ◌-f◌, ◌*f◌, ◌/f◌, num, +0, quarter, one, two, four, at, finite}
+use Rattle.laws.specs.Floats.{◌+f◌, ◌-f◌, ◌*f◌, ◌/f◌, num, quarter, one, two, four, at, finite}
 use Rattle.laws.specs.Loop.{for}
-use Rattle.point.specs.declared.Total.{Total}
-use Rattle.point.specs.declared.Total.TheVariants as total
+use Rattle.point.specs.declared.TotalVariance.{TotalVariance}
 use Rattle.slice.specs.declared.SviSlice.{SviSlice}
 use Rattle.surface.specs.declared.types.ShortExpiryPolicy.{ShortExpiryPolicy}
 use Rattle.surface.specs.Surface.{variance_at}
 use Rattle.diagnostics.specs.declared.tally.Check.{Check}
-use Rattle.diagnostics.specs.declared.points.Seen.{Seen}
-use Rattle.diagnostics.specs.declared.points.Seen.TheVariants.{Good, Failed}
+use Rattle.diagnostics.specs.declared.points.Reading.{Reading}
 use Rattle.diagnostics.specs.declared.grid.Previous.{Previous}
 use Rattle.diagnostics.specs.declared.grid.Walk.{Walk}
 use Rattle.diagnostics.specs.declared.report.DiagnosticsConfig.{DiagnosticsConfig}
@@ -26,29 +24,30 @@ butterfly_of k w wk wkk =
     first *f first -f wk *f wk /f four *f (one /f w +f quarter) +f wkk /f two
 
 -- what a point yields: a refusal's number, or 30 where the butterfly value is not finite
-abbrev pub seen_of : Total → Float → Seen
-seen_of (total.Refused n) k = Failed n
-seen_of (total.At v) k =
-    unless (finite (butterfly_of k v.w v.w_k v.w_kk)) (Failed 30)
-    (Good (butterfly_of k v.w v.w_k v.w_kk) v.w v.w_tau)
+abbrev pub seen_of : Result TotalVariance ℕ → Float → Result Reading ℕ
+seen_of (Err n) k = Err n
+seen_of (Ok v) k =
+    unless (finite (butterfly_of k v.w v.w_k v.w_kk)) (Err 30)
+    (Ok (record { g = butterfly_of k v.w v.w_k v.w_kk; w = v.w; w_tau = v.w_tau }))
 
 -- no point before: at the start of each k, and after a failure
-abbrev pub no_previous : Previous
-no_previous = record { found = false; tau = +0; w = +0 }
+abbrev pub no_previous : Option Previous
+no_previous = None
 
 -- a gap is recorded at the earlier tau, where the point before did not fail
-unfoldable pub gap_of : Check → Previous → Float → Float → Float → Check
-gap_of gap p k w t = cond p.found (recorded_of gap (point_at k p.tau (w -f p.w)) t) gap
+abbrev pub gap_of : Check → Option Previous → Float → Float → Float → Check
+gap_of gap None k w t = gap
+gap_of gap (Some p) k w t = recorded_of gap (point_at k p.tau (w -f p.w)) t
 
 -- a good point is recorded in the tallies
-unfoldable pub good_of : Walk → Float → Float → Float → Float → Float → DiagnosticsConfig → Walk
-good_of s k tau g w wtau tol =
+unfoldable pub good_of : Walk → Float → Float → Reading → DiagnosticsConfig → Walk
+good_of s k tau r tol =
     record {
-      butterfly = recorded_of s.butterfly (point_at k tau g) tol.butterfly_tolerance;
-      slope = recorded_of s.slope (point_at k tau wtau) tol.calendar_tolerance;
-      gap = gap_of s.gap s.previous k w tol.calendar_tolerance;
+      butterfly = recorded_of s.butterfly (point_at k tau r.g) tol.butterfly_tolerance;
+      slope = recorded_of s.slope (point_at k tau r.w_tau) tol.calendar_tolerance;
+      gap = gap_of s.gap s.previous k r.w tol.calendar_tolerance;
       failed = s.failed;
-      previous = record { found = true; tau = tau; w = w };
+      previous = Some (record { tau = tau; w = r.w });
     }
 
 -- a failure is counted, and is in no tally
@@ -68,14 +67,14 @@ unfoldable pub failure_at : List Float → ℕ → Float → Float → ℕ → L
 failure_at room i k tau n = set (set (set room (3 * i) k) (3 * i + 1) tau) (3 * i + 2) (num n)
 
 -- a point is recorded, or its failure is written
-unfoldable pub visit_of : State → Seen → Float → Float → DiagnosticsConfig → State
-visit_of st (Good g w wtau) k tau tol = walk_in (good_of st.walk k tau g w wtau tol) st.room
-visit_of st (Failed n) k tau tol = walk_in (failed_of st.walk) (failure_at st.room st.walk.failed k tau n)
+unfoldable pub visit_of : State → Result Reading ℕ → Float → Float → DiagnosticsConfig → State
+visit_of st (Ok r) k tau tol = walk_in (good_of st.walk k tau r tol) st.room
+visit_of st (Err n) k tau tol = walk_in (failed_of st.walk) (failure_at st.room st.walk.failed k tau n)
 
 -- ---- the walk, over any function from k and tau to what is seen there
 
 abbrev pub PointFn : Type 0
-PointFn = Float → Float → Seen
+PointFn = Float → Float → Result Reading ℕ
 
 -- a new k has no point before
 unfoldable pub fresh_of : Walk → Walk

@@ -1,17 +1,17 @@
 // The walk over the grid: k outside, tau inside. A good point is recorded in the tallies, a failure is written to the lent room.
 ghost use Rattle.std.specs.Prelude.{◌≡◌, ◌+◌, ◌*◌, ◌<◌, ◌≤◌, length};
-ghost use Rattle.diagnostics.specs.Walk.{gap_of, good_of, failed_of, walk_in, visit_of, fresh_of, seen_on, taus_at, no_previous, walk_start, walk_of};
+ghost use Rattle.refusals.specs.Numbers.{numbered};
+ghost use Rattle.diagnostics.specs.Walk.{gap_of, good_of, failed_of, walk_in, visit_of, fresh_of, seen_on, taus_at, walk_start, walk_of};
 
-use crate::points::Seen;
+use crate::points::Reading;
 use crate::report::DiagnosticsConfig;
 use crate::tally::{Check, DiagnosticPoint};
-use slice::SviSlice;
-use surface::types::ShortExpiryPolicy;
+use refusals::Refusal;
+use surface::types::{Nodes, Run, ShortExpiryPolicy};
 
-// The point before on the tau axis, where it did not fail.
+// The point before on the tau axis, which did not fail.
 #[derive(Clone, Copy)]
 pub struct Previous {
-    pub found: bool,
     pub tau: f64,
     pub w: f64,
 }
@@ -22,62 +22,40 @@ pub struct Walk {
     pub slope: Check,
     pub gap: Check,
     pub failed: usize,
-    pub previous: Previous,
+    pub previous: Option<Previous>,
 }
 
-fn nothing_before() -> Previous
-    ensures { result ≡ no_previous }
-{
-    Previous {
-        found: false,
-        tau: 0.0,
-        w: 0.0,
-    }
-}
-
-fn gap_after(gap: Check, p: Previous, k: f64, w: f64, tolerance: f64) -> Check
+fn gap_after(gap: Check, p: Option<Previous>, k: f64, w: f64, tolerance: f64) -> Check
     ensures { result ≡ gap_of gap p k w tolerance }
 {
-    if p.found {
-        let at = DiagnosticPoint {
-            k,
-            tau: p.tau,
-            value: w - p.w,
-        };
-        return Check::recorded(gap, at, tolerance);
+    match p {
+        Some(before) => {
+            let at = DiagnosticPoint {
+                k,
+                tau: before.tau,
+                value: w - before.w,
+            };
+            gap.recorded(at, tolerance)
+        }
+        None => gap,
     }
-    gap
 }
 
-fn good(s: Walk, k: f64, tau: f64, g: f64, w: f64, w_tau: f64, tol: DiagnosticsConfig) -> Walk
-    ensures { result ≡ good_of s k tau g w w_tau tol }
+fn good(s: Walk, k: f64, tau: f64, r: Reading, tol: DiagnosticsConfig) -> Walk
+    ensures { result ≡ good_of s k tau r tol }
 {
-    let butterfly = Check::recorded(
-        s.butterfly,
-        DiagnosticPoint { k, tau, value: g },
-        tol.butterfly_tolerance,
-    );
-    let slope = Check::recorded(
-        s.slope,
-        DiagnosticPoint {
-            k,
-            tau,
-            value: w_tau,
-        },
-        tol.calendar_tolerance,
-    );
-    let before = s.previous;
-    let gap = gap_after(s.gap, before, k, w, tol.calendar_tolerance);
+    let g = DiagnosticPoint { k, tau, value: r.g };
+    let rise = DiagnosticPoint {
+        k,
+        tau,
+        value: r.w_tau,
+    };
     Walk {
-        butterfly,
-        slope,
-        gap,
+        butterfly: s.butterfly.recorded(g, tol.butterfly_tolerance),
+        slope: s.slope.recorded(rise, tol.calendar_tolerance),
+        gap: gap_after(s.gap, s.previous, k, r.w, tol.calendar_tolerance),
         failed: s.failed,
-        previous: Previous {
-            found: true,
-            tau,
-            w,
-        },
+        previous: Some(Previous { tau, w: r.w }),
     }
 }
 
@@ -85,30 +63,32 @@ fn failed_at(s: Walk) -> Walk
     requires { s.failed < 18446744073709551615 }
     ensures { result ≡ failed_of s }
 {
-    let butterfly = s.butterfly;
-    let slope = s.slope;
-    let gap = s.gap;
     Walk {
-        butterfly,
-        slope,
-        gap,
         failed: s.failed + 1,
-        previous: nothing_before(),
+        previous: None,
+        ..s
     }
 }
 
-fn visit(room: &mut [f64], s: Walk, seen: Seen, k: f64, tau: f64, tol: DiagnosticsConfig) -> Walk
+fn visit(
+    room: &mut [f64],
+    s: Walk,
+    seen: Result<Reading, Refusal>,
+    k: f64,
+    tau: f64,
+    tol: DiagnosticsConfig,
+) -> Walk
     requires { 3 * s.failed + 3 ≤ length room.old }
-    ensures room_after { walk_in result room.new ≡ visit_of (walk_in s room.old) seen k tau tol }
+    ensures room_after { walk_in result room.new ≡ visit_of (walk_in s room.old) (numbered seen) k tau tol }
     ensures failed_bound { result.failed ≤ s.failed + 1 }
 {
     match seen {
-        Seen::Good { g, w, w_tau } => good(s, k, tau, g, w, w_tau, tol),
-        Seen::Failed(n) => {
+        Ok(r) => good(s, k, tau, r, tol),
+        Err(e) => {
             let at = 3 * s.failed;
             room[at] = k;
             room[at + 1] = tau;
-            room[at + 2] = n as f64;
+            room[at + 2] = e.number() as f64;
             failed_at(s)
         }
     }
@@ -118,23 +98,15 @@ fn visit(room: &mut [f64], s: Walk, seen: Seen, k: f64, tau: f64, tol: Diagnosti
 fn fresh(s: Walk) -> Walk
     ensures { result ≡ fresh_of s }
 {
-    let butterfly = s.butterfly;
-    let slope = s.slope;
-    let gap = s.gap;
     Walk {
-        butterfly,
-        slope,
-        gap,
-        failed: s.failed,
-        previous: nothing_before(),
+        previous: None,
+        ..s
     }
 }
 
 fn row(
-    recs: [SviSlice; 32],
-    taus: &[f64; 32],
-    tols: &[f64; 32],
-    n: usize,
+    run: &Run,
+    nodes: &Nodes,
     policy: ShortExpiryPolicy,
     axis: &[f64],
     tol: DiagnosticsConfig,
@@ -143,13 +115,13 @@ fn row(
     room: &mut [f64],
 ) -> Walk
     requires { 3 * (from.failed + length axis.now) ≤ length room.old }
-    ensures room_after { walk_in result room.new ≡ taus_at (seen_on recs taus.now tols.now n policy) tol axis.now k (walk_in from room.old) }
+    ensures room_after { walk_in result room.new ≡ taus_at (seen_on run.now.recs nodes.now.taus nodes.now.tols nodes.now.count policy) tol axis.now k (walk_in from room.old) }
     ensures failed_bound { result.failed ≤ from.failed + length axis.now }
 {
     let mut s = fresh(from);
-    for j in 0..axis.len() {
-        let tau = axis[j];
-        let seen = crate::points::seen_at(recs, taus, tols, n, policy, k, tau);
+    for tau in axis {
+        let tau = *tau;
+        let seen = crate::points::seen_at(run, nodes, policy, k, tau);
         s = visit(room, s, seen, k, tau, tol);
     }
     s
@@ -164,15 +136,13 @@ fn start() -> Walk
         slope: none,
         gap: none,
         failed: 0,
-        previous: nothing_before(),
+        previous: None,
     }
 }
 
 pub(crate) fn walk_grid(
-    recs: [SviSlice; 32],
-    taus: &[f64; 32],
-    tols: &[f64; 32],
-    n: usize,
+    run: &Run,
+    nodes: &Nodes,
     policy: ShortExpiryPolicy,
     ks: &[f64],
     axis: &[f64],
@@ -180,12 +150,11 @@ pub(crate) fn walk_grid(
     room: &mut [f64],
 ) -> Walk
     requires { 3 * (length ks.now * length axis.now) ≤ length room.old }
-    ensures { walk_in result room.new ≡ walk_of (seen_on recs taus.now tols.now n policy) tol ks.now axis.now room.old }
+    ensures { walk_in result room.new ≡ walk_of (seen_on run.now.recs nodes.now.taus nodes.now.tols nodes.now.count policy) tol ks.now axis.now room.old }
 {
     let mut s = start();
-    for i in 0..ks.len() {
-        let k = ks[i];
-        s = row(recs, taus, tols, n, policy, axis, tol, k, s, room);
+    for k in ks {
+        s = row(run, nodes, policy, axis, tol, *k, s, room);
     }
     s
 }

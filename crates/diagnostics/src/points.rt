@@ -1,15 +1,18 @@
-// What a grid point yields: the butterfly value, w and dw/dtau; or a failure.
-ghost use Rattle.std.specs.Prelude.{◌≡◌};
+// What a grid point yields: the butterfly value, w and dw/dtau; or why it failed.
+ghost use Rattle.std.specs.Prelude.{◌≡◌, Ok};
+ghost use Rattle.refusals.specs.Numbers.{numbered};
 ghost use Rattle.diagnostics.specs.Walk.{butterfly_of, seen_of, seen_on};
 
-use point::Total;
-use slice::SviSlice;
-use surface::types::ShortExpiryPolicy;
+use point::TotalVariance;
+use refusals::Refusal;
+use surface::types::{Nodes, Run, ShortExpiryPolicy};
 
+// What is read at a point that did not fail: g is the butterfly value.
 #[derive(Clone, Copy)]
-pub enum Seen {
-    Good { g: f64, w: f64, w_tau: f64 },
-    Failed(u32),
+pub struct Reading {
+    pub g: f64,
+    pub w: f64,
+    pub w_tau: f64,
 }
 
 // Gatheral and Jacquier's g(k).
@@ -20,41 +23,29 @@ pub fn butterfly_g(k: f64, w: f64, w_k: f64, w_kk: f64) -> f64
     first * first - (w_k * w_k / 4.0) * (1.0 / w + 0.25) + w_kk / 2.0
 }
 
-fn seen_of(t: Total, k: f64) -> Seen
-    ensures { result ≡ seen_of t k }
+fn reading_of(v: TotalVariance, k: f64) -> Result<Reading, Refusal>
+    ensures { numbered result ≡ seen_of (Ok v) k }
 {
-    match t {
-        Total::Refused(n) => Seen::Failed(n),
-        Total::At(v) => {
-            let g = butterfly_g(k, v.w, v.w_k, v.w_kk);
-            let good = bits::is_finite(g);
-            if good {
-                Seen::Good {
-                    g,
-                    w: v.w,
-                    w_tau: v.w_tau,
-                }
-            } else {
-                Seen::Failed(30)
-            }
-        }
+    let g = butterfly_g(k, v.w, v.w_k, v.w_kk);
+    if bits::is_finite(g) {
+        return Ok(Reading {
+            g,
+            w: v.w,
+            w_tau: v.w_tau,
+        });
     }
+    Err(Refusal::Eval)
 }
 
-// Of tested slices, their taus and their tolerances.
+// At a point of tested slices, whose nodes these are.
 pub fn seen_at(
-    recs: [SviSlice; 32],
-    taus: &[f64; 32],
-    tols: &[f64; 32],
-    n: usize,
+    run: &Run,
+    nodes: &Nodes,
     policy: ShortExpiryPolicy,
     k: f64,
     tau: f64,
-) -> Seen
-    ensures { result ≡ seen_on recs taus.now tols.now n policy k tau }
+) -> Result<Reading, Refusal>
+    ensures { numbered result ≡ seen_on run.now.recs nodes.now.taus nodes.now.tols nodes.now.count policy k tau }
 {
-    seen_of(
-        surface::answers::variance_at(recs, taus, tols, n, policy, k, tau),
-        k,
-    )
+    reading_of(run.total_variance(nodes, policy, k, tau)?, k)
 }

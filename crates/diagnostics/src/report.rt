@@ -1,10 +1,12 @@
 // The tests before a walk, and the report after it.
 ghost use Rattle.std.specs.Prelude.{◌≡◌, ◌*◌, ltb};
+ghost use Rattle.refusals.specs.Numbers.{numbered, number_in};
 ghost use Rattle.diagnostics.specs.Diagnostics.{default_config, tolerance_number, diagnose_number, report_of, report_clean, diagnose_of};
 
 use crate::grid::Walk;
 use crate::tally::Check;
-use surface::types::{Run, ShortExpiryPolicy};
+use refusals::Refusal;
+use surface::types::{Nodes, Run, ShortExpiryPolicy};
 
 // A value counts as a violation only below minus its tolerance.
 #[repr(C)]
@@ -14,8 +16,10 @@ pub struct DiagnosticsConfig {
     pub calendar_tolerance: f64,
 }
 
-impl DiagnosticsConfig {
-    pub fn default() -> DiagnosticsConfig
+impl Default for DiagnosticsConfig {
+    ghost is_default = { λ config. config ≡ default_config };
+
+    fn default() -> DiagnosticsConfig
         ensures { result ≡ default_config }
     {
         DiagnosticsConfig {
@@ -40,25 +44,23 @@ impl SurfaceDiagnostics {
     pub fn is_clean(self) -> bool
         ensures { result ≡ report_clean self }
     {
-        let butterfly = Check::is_clean(self.butterfly);
-        let slope = Check::is_clean(self.calendar_slope);
-        let gap = Check::is_clean(self.calendar_gap);
+        let butterfly = self.butterfly.is_clean();
+        let slope = self.calendar_slope.is_clean();
+        let gap = self.calendar_gap.is_clean();
         butterfly & slope & gap & (self.evaluation_failures == 0)
     }
 }
 
-#[derive(Clone, Copy)]
-pub enum Diagnosed {
-    Done(SurfaceDiagnostics),
-    Refused(u32),
-}
-
-fn tolerance_number(tol: DiagnosticsConfig) -> u32
-    ensures { result ≡ tolerance_number tol }
+// 42 unless both tolerances are finite and not below zero.
+fn check_tolerance(tol: DiagnosticsConfig) -> Result<(), Refusal>
+    ensures { number_in result ≡ tolerance_number tol }
 {
     let b = bits::is_finite(tol.butterfly_tolerance) & (0.0 <= tol.butterfly_tolerance);
     let c = bits::is_finite(tol.calendar_tolerance) & (0.0 <= tol.calendar_tolerance);
-    bits::pick_number(b & c, 0, 42)
+    if b & c {
+        return Ok(());
+    }
+    Err(Refusal::Tolerance)
 }
 
 // Whether the room is too short for three numbers a grid point. By division, so that nothing overflows.
@@ -71,31 +73,30 @@ fn short_room(room: usize, nk: usize, nt: usize) -> bool
     room / 3 / nt < nk
 }
 
-// 12, then 11, 21 to 28, 32, 33, then 40 to 42; or 0.
-fn diagnose_number(run: Run, ks: &[f64], axis: &[f64], tol: DiagnosticsConfig, room: usize) -> u32
-    ensures { result ≡ diagnose_number run ks.now axis.now tol room }
+// 12, then 11, 21 to 28, 32, 33, then 40 to 42.
+fn check_diagnose(
+    run: Run,
+    ks: &[f64],
+    axis: &[f64],
+    tol: DiagnosticsConfig,
+    room: usize,
+) -> Result<(), Refusal>
+    ensures { number_in result ≡ diagnose_number run ks.now axis.now tol room }
 {
-    let short = short_room(room, ks.len(), axis.len());
-    if short {
-        return 12;
+    if short_room(room, ks.len(), axis.len()) {
+        return Err(Refusal::Lengths);
     }
-    let bad = surface::answers::entry_number(run, ks, axis);
-    if bad == 0 {
-        return tolerance_number(tol);
-    }
-    bad
+    surface::answers::check_entry(run, ks, axis)?;
+    check_tolerance(tol)
 }
 
 fn report_of(s: Walk) -> SurfaceDiagnostics
     ensures { result ≡ report_of s }
 {
-    let butterfly = s.butterfly;
-    let calendar_slope = s.slope;
-    let calendar_gap = s.gap;
     SurfaceDiagnostics {
-        butterfly,
-        calendar_slope,
-        calendar_gap,
+        butterfly: s.butterfly,
+        calendar_slope: s.slope,
+        calendar_gap: s.gap,
         evaluation_failures: s.failed,
     }
 }
@@ -107,17 +108,11 @@ pub fn diagnose_run(
     axis: &[f64],
     tol: DiagnosticsConfig,
     room: &mut [f64],
-) -> Diagnosed
-    ensures { (result ≡ (diagnose_of run policy ks.now axis.now tol room.old).answer) × (room.new ≡ (diagnose_of run policy ks.now axis.now tol room.old).room) }
+) -> Result<SurfaceDiagnostics, Refusal>
+    ensures { (numbered result ≡ (diagnose_of run policy ks.now axis.now tol room.old).answer) × (room.new ≡ (diagnose_of run policy ks.now axis.now tol room.old).room) }
 {
-    let bad = diagnose_number(run, ks, axis, tol, room.len());
-    if bad == 0 {
-        let n = run.count;
-        let recs = run.recs;
-        let taus = surface::run::taus_of(recs);
-        let tols = surface::lookup::tolerances(&taus, n);
-        let s = crate::grid::walk_grid(recs, &taus, &tols, n, policy, ks, axis, tol, room);
-        return Diagnosed::Done(report_of(s));
-    }
-    Diagnosed::Refused(bad)
+    check_diagnose(run, ks, axis, tol, room.len())?;
+    let nodes = Nodes::of(&run);
+    let s = crate::grid::walk_grid(&run, &nodes, policy, ks, axis, tol, room);
+    Ok(report_of(s))
 }

@@ -11,6 +11,7 @@ pub struct DiagnosticPoint {
     pub value: f64,
 }
 
+// Stays: `found` beside the point, and no Option, since a Check crosses the C interface as it is (PortWorst of include/kesupayro.h).
 #[repr(C)]
 #[derive(Clone, Copy)]
 pub struct Worst {
@@ -26,15 +27,11 @@ pub struct Check {
     pub worst: Worst,
 }
 
-// One more where asked. It stops at the top, as saturating_add does.
+// One more where asked. It stops at the top.
 fn bumped(yes: bool, n: usize) -> usize
     ensures { result ≡ one_more yes n }
 {
-    if yes {
-        if n < 18446744073709551615 { n + 1 } else { n }
-    } else {
-        n
-    }
+    if yes { n.saturating_add(1) } else { n }
 }
 
 fn worse(w: Worst, p: DiagnosticPoint) -> Worst
@@ -52,8 +49,11 @@ fn worse(w: Worst, p: DiagnosticPoint) -> Worst
     }
 }
 
-impl Check {
-    pub fn default() -> Check
+// Stays: not derived, since a derived `default` promises each field alone, and callers want the whole, `no_check`.
+impl Default for Check {
+    ghost is_default = { λ check. check ≡ no_check };
+
+    fn default() -> Check
         ensures { result ≡ no_check }
     {
         Check {
@@ -69,7 +69,9 @@ impl Check {
             },
         }
     }
+}
 
+impl Check {
     pub fn recorded(self, point: DiagnosticPoint, tolerance: f64) -> Check
         ensures { result ≡ recorded_of self point tolerance }
     {

@@ -10,7 +10,7 @@ use std::io::Read;
 use std::str;
 
 // The line so far: its name's letters, its spaces, and its last three words; and how many lines before it there were, and how many of them agreed.
-#[derive(Clone, Copy)]
+#[derive(Clone, Copy, Default)]
 struct Reading {
     name: u64,
     spaces: u64,
@@ -22,103 +22,91 @@ struct Reading {
 }
 
 fn more(n: u64) -> u64 {
-    if n < 1000000000 { n + 1 } else { n }
+    if n < 1_000_000_000 { n + 1 } else { n }
 }
 
-// The answer of a function of one argument, as bits. A name is its letters, as bytes: 73 71 72 74 is sqrt, 6c 6e ln, 65 78 70 exp, 68 79 70 6f 74 hypot.
-fn one(name: u64, x: f64) -> u64 {
-    if name == 0x7371_7274 {
-        return bits::bits_of(roots::sqrt(x));
-    }
-    if name == 0x6c6e {
-        return bits::bits_of(exponent::ln(x));
-    }
-    bits::bits_of(exponent::exp(x))
+#[derive(Clone, Copy)]
+enum Function {
+    Sqrt,
+    Hypot,
+    Ln,
+    Exp,
 }
 
-// Whether the line that ends here has the function's answer.
+// A name is its letters, as bytes.
+fn function_of(name: u64) -> Option<Function> {
+    match name {
+        0x7371_7274 => Some(Function::Sqrt),
+        0x68_7970_6f74 => Some(Function::Hypot),
+        0x6c6e => Some(Function::Ln),
+        0x65_7870 => Some(Function::Exp),
+        _ => None,
+    }
+}
+
+// Whether the line that ends here has the function's answer: behind the name a space and a word for each argument, and for the answer.
 fn agrees(s: Reading) -> bool {
-    if s.name == 0x68_7970_6f74 {
-        return (s.spaces == 3)
-            & (bits::bits_of(roots::hypot(bits::f64_of(s.x), bits::f64_of(s.y))) == s.z);
+    let x = bits::f64_of(s.x);
+    let y = bits::f64_of(s.y);
+    match function_of(s.name) {
+        Some(Function::Sqrt) => s.spaces == 2 && bits::bits_of(roots::sqrt(y)) == s.z,
+        Some(Function::Hypot) => s.spaces == 3 && bits::bits_of(roots::hypot(x, y)) == s.z,
+        Some(Function::Ln) => s.spaces == 2 && bits::bits_of(exponent::ln(y)) == s.z,
+        Some(Function::Exp) => s.spaces == 2 && bits::bits_of(exponent::exp(y)) == s.z,
+        None => false,
     }
-    if (s.name == 0x7371_7274) | (s.name == 0x6c6e) | (s.name == 0x65_7870) {
-        return (s.spaces == 2) & (one(s.name, bits::f64_of(s.y)) == s.z);
-    }
-    false
 }
 
 // The line ends, and the next begins.
 fn ended(s: Reading) -> Reading {
-    let lines = more(s.lines);
-    let equal = if agrees(s) { more(s.equal) } else { s.equal };
     Reading {
-        name: 0,
-        spaces: 0,
-        x: 0,
-        y: 0,
-        z: 0,
-        lines,
-        equal,
+        lines: more(s.lines),
+        equal: if agrees(s) { more(s.equal) } else { s.equal },
+        ..Reading::default()
     }
 }
 
 fn digit(c: u8) -> u64 {
-    if c < 97 {
-        (c as u64) % 16
+    if c < b'a' {
+        u64::from(c % 16)
     } else {
-        (c as u64) % 16 + 9
+        u64::from(c % 16 + 9)
     }
 }
 
+// Of a name the last eight letters count, of a word the last sixteen digits.
 fn fed(s: Reading, c: u8) -> Reading {
-    if c == 10 {
+    if c == b'\n' {
         return ended(s);
     }
-    if c == 32 {
+    if c == b' ' {
         return Reading {
-            name: s.name,
             spaces: more(s.spaces),
             x: s.y,
             y: s.z,
             z: 0,
-            lines: s.lines,
-            equal: s.equal,
+            ..s
         };
     }
     if s.spaces == 0 {
         return Reading {
-            name: s.name % 72057594037927936 * 256 + (c as u64),
-            spaces: 0,
-            x: s.x,
-            y: s.y,
-            z: s.z,
-            lines: s.lines,
-            equal: s.equal,
+            name: (s.name << 8) | u64::from(c),
+            ..s
         };
     }
     Reading {
-        name: s.name,
-        spaces: s.spaces,
-        x: s.x,
-        y: s.y,
-        z: s.z % 1152921504606846976 * 16 + digit(c) % 16,
-        lines: s.lines,
-        equal: s.equal,
+        z: (s.z << 4) | (digit(c) % 16),
+        ..s
     }
 }
 
 fn all_fed(start: Reading, part: &[u8]) -> Reading {
-    let mut s = start;
-    let mut i = 0;
-    while i < part.len() {
-        s = fed(s, part[i]);
-        i += 1;
-    }
-    s
+    part.iter().fold(start, |s, c| fed(s, *c))
 }
 
+// Stays beside its likes in vectors, as the three functions for arguments do: each public function of a library here has one answer, and what a system gives has none.
 // Reads until buf is full, the input ends or a read fails, since one read may give fewer bytes than there are. Returns how many bytes it put at the start of buf.
+// Stays a `while`: how far a turn comes is the reader's to say.
 fn read_full<R: Read>(input: &mut R, buf: &mut [u8]) -> usize
     ensures { result ≤ length buf.new }
 {
@@ -135,22 +123,12 @@ fn read_full<R: Read>(input: &mut R, buf: &mut [u8]) -> usize
 
 // Reads to the end, 65,536 bytes at a time.
 fn read_through<R: Read>(input: &mut R) -> Reading {
-    let mut s = Reading {
-        name: 0,
-        spaces: 0,
-        x: 0,
-        y: 0,
-        z: 0,
-        lines: 0,
-        equal: 0,
-    };
+    let mut s = Reading::default();
     let mut part = [0u8; 65536];
-    let mut left: u64 = 1000000;
-    while 0 < left {
-        left -= 1;
+    for _ in 0..1_000_000 {
         let n = read_full(input, &mut part);
         if n == 0 {
-            return s;
+            break;
         }
         s = all_fed(s, &part[..n]);
     }
@@ -172,10 +150,7 @@ fn argument_count(rt: &impl Env) -> usize {
 fn argument(rt: &impl Env, i: usize, name: &mut [u8]) -> usize
     ensures { result ≤ length name.new }
 {
-    match rt.arg(i, name) {
-        Ok(n) => n,
-        Err(_) => 0,
-    }
+    rt.arg(i, name).unwrap_or(0)
 }
 
 // The name of a file as text: one that is not UTF-8 is said on standard error.

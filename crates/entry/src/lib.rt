@@ -2,9 +2,11 @@
 #![tactic(auto)]
 
 ghost use Rattle.std.specs.Prelude.{◌≡◌, length};
+ghost use Rattle.refusals.specs.Numbers.{number_in};
 ghost use Rattle.entry.specs.Entry.{lengths_hold, columns_pass, range_of, span_of, checks_number};
 
 use records::FitConfig;
+use refusals::Refusal;
 use slice::KRange;
 
 fn lengths_hold(k: &[f64], w: &[f64], weight: &[f64], room: usize, slots: usize) -> bool
@@ -18,28 +20,27 @@ fn all_pass(k: &[f64], w: &[f64], weight: &[f64]) -> bool
     requires { (length w.now ≡ length k.now) × (length weight.now ≡ length k.now) }
     ensures { result ≡ columns_pass k.now w.now weight.now }
 {
-    let mut ok = true;
-    for i in 0..k.len() {
-        ok = ok & records::passes(k[i], w[i], weight[i]);
-    }
-    ok
+    k.iter()
+        .zip(w)
+        .zip(weight)
+        .all(|((k, w), t)| records::passes(*k, *w, *t))
 }
 
 // The least and the largest k.
 pub fn range_of(k: &[f64]) -> KRange
     ensures { result ≡ range_of k.now }
 {
-    let mut t = KRange {
-        lo: 1.0 / 0.0,
-        hi: -(1.0 / 0.0),
+    let none = KRange {
+        lo: f64::INFINITY,
+        hi: -f64::INFINITY,
     };
-    for i in 0..k.len() {
-        t = KRange {
-            lo: bits::min(t.lo, k[i]),
-            hi: bits::max(t.hi, k[i]),
-        };
-    }
-    t
+    k.iter().fold(
+        none,
+        |t, k| KRange {
+            lo: bits::min(t.lo, *k),
+            hi: bits::max(t.hi, *k),
+        },
+    )
 }
 
 fn span_of(k: &[f64]) -> f64
@@ -49,7 +50,7 @@ fn span_of(k: &[f64]) -> f64
     t.hi - t.lo
 }
 
-// The number of the first of the checks 12, 11, 10, 1, 2, 3, 4 that fails, or 0.
+// The first of the checks 12, 11, 10, 1, 2, 3, 4 that fails.
 pub fn checks(
     tau: f64,
     config: FitConfig,
@@ -58,35 +59,29 @@ pub fn checks(
     weight: &[f64],
     room: usize,
     slots: usize,
-) -> u32
-    ensures { result ≡ checks_number tau config k.now w.now weight.now room slots }
+) -> Result<(), Refusal>
+    ensures { number_in result ≡ checks_number tau config k.now w.now weight.now room slots }
 {
-    let lengths = lengths_hold(k, w, weight, room, slots);
-    if !lengths {
-        return 12;
+    if !lengths_hold(k, w, weight, room, slots) {
+        return Err(Refusal::Lengths);
     }
-    let sizes = records::sizes_hold(k.len(), config);
-    if !sizes {
-        return 11;
+    if !records::sizes_hold(k.len(), config) {
+        return Err(Refusal::Size);
     }
-    let observations = all_pass(k, w, weight);
-    if !observations {
-        return 10;
+    if !all_pass(k, w, weight) {
+        return Err(Refusal::BadObservation);
     }
-    let settings = config.validate();
-    if !settings {
-        return 1;
+    if !config.validate() {
+        return Err(Refusal::Settings);
     }
-    let expiry = records::is_positive(tau);
-    if !expiry {
-        return 2;
+    if !bits::is_positive(tau) {
+        return Err(Refusal::Tau);
     }
     if k.len() < config.min_observations {
-        return 3;
+        return Err(Refusal::TooFew);
     }
-    let wide = records::is_positive(span_of(k));
-    if !wide {
-        return 4;
+    if !bits::is_positive(span_of(k)) {
+        return Err(Refusal::NoSpan);
     }
-    0
+    Ok(())
 }

@@ -2,9 +2,9 @@
 use Rattle.std.proofs.Common.{◌≡◌, ℕ, ◌*◌, ◌≤◌, true, false, not, T, ltb, pos, refl, ◌∙◌, true≢false, arith, nltb→le}
 use mathlib.Core.Bool.{false≢true}
 use lib.Arith.{le→nltb}
-use lib.Ieee.{Float, nan, inf, fin, unlike, up, down, neg, lt, ne, mul, div, is_nan, of_bits}
+use lib.Ieee.{Float, nan, inf, fin, unlike, up, down, neg, lt, ne, mul, is_nan, binary64, of_bits}
 use lib.Ieee.Bits.{is_false}
-use Rattle.laws.specs.Floats.{◌*f◌, ◌/f◌, +0, one}
+use Rattle.laws.specs.Floats.{◌*f◌, +0}
 use Rattle.laws.proofs.Floats.{nan_test}
 use Rattle.laws.proofs.Interval.{Iv}
 use Rattle.laws.proofs.Signs.{mul_signed, signed_no_nan}
@@ -30,9 +30,9 @@ below_no_nan nan y t = absurd t
 below_no_nan (inf s) y t = tt
 below_no_nan (fin s m e) y t = tt
 
-pub minus_one_over_zero : neg one /f +0 ≡ inf true
-unfolding div of_bits neg
-minus_one_over_zero = refl
+pub minus_infinity : of_bits binary64 0xfff0_0000_0000_0000 ≡ inf true
+unfolding of_bits
+minus_infinity = refl
 
 -- ---- exp
 pub below_not_high : (x : Float) → T (lt x (neg c746)) → lt c710 x ≡ false

@@ -5,8 +5,8 @@ ghost use Rattle.std.specs.Prelude.{◌≡◌};
 ghost use Rattle.faces.specs.Faces.{member_of, face_marks};
 ghost use Rattle.faces.specs.Next.{after_one, after_two, after_three, next_of};
 
-// A face: how many of its constraints are held, and which, rising; what is not used is 0.
-#[derive(Clone, Copy)]
+// A face: how many of its constraints are held, and which, rising; what is not used is 0. The default is the empty face.
+#[derive(Clone, Copy, Default)]
 pub struct Face {
     pub size: usize,
     pub a: usize,
@@ -18,16 +18,16 @@ pub struct Face {
 fn member(f: Face, s: usize) -> usize
     ensures { result ≡ member_of f s }
 {
-    if s == 0 {
-        return f.a;
+    match s {
+        0 => f.a,
+        1 => f.b,
+        _ => f.c,
     }
-    if s == 1 {
-        return f.b;
-    }
-    f.c
 }
 
 // The face after one of one constraint, of seven.
+// Stays: the three sizes have functions of their own, since one over all of them would be a loop back over the members and one on over those behind, with as many tests.
+#[tactic(auto, unfolding(crate::specs::Next::after_one))]
 fn after_one(f: Face) -> Face
     ensures { result ≡ after_one 7 f }
 {
@@ -35,27 +35,26 @@ fn after_one(f: Face) -> Face
         return Face {
             size: 1,
             a: f.a + 1,
-            b: 0,
-            c: 0,
+            ..Face::default()
         };
     }
     Face {
         size: 2,
-        a: 0,
         b: 1,
-        c: 0,
+        ..Face::default()
     }
 }
 
+#[tactic(auto, unfolding(crate::specs::Next::after_two))]
 fn after_two(f: Face) -> Face
     ensures { result ≡ after_two 7 f }
 {
     if f.b < 6 {
         return Face {
             size: 2,
-            a: f.a,
             b: f.b + 1,
             c: 0,
+            ..f
         };
     }
     if f.a < 5 {
@@ -74,32 +73,27 @@ fn after_two(f: Face) -> Face
     }
 }
 
+#[tactic(auto, unfolding(crate::specs::Next::after_three))]
 fn after_three(f: Face) -> Face
     ensures { result ≡ after_three 7 f }
 {
     if f.c < 6 {
         return Face {
             size: 3,
-            a: f.a,
-            b: f.b,
             c: f.c + 1,
+            ..f
         };
     }
     if f.b < 5 {
         return Face {
             size: 3,
-            a: f.a,
             b: f.b + 1,
             c: f.b + 2,
+            ..f
         };
     }
     if f.a >= 4 {
-        return Face {
-            size: 3,
-            a: f.a,
-            b: f.b,
-            c: f.c,
-        };
+        return Face { size: 3, ..f };
     }
     Face {
         size: 3,
@@ -110,24 +104,19 @@ fn after_three(f: Face) -> Face
 }
 
 // The face after f, of at most three of seven constraints. The last one stays.
+#[tactic(auto, unfolding(crate::specs::Next::next_of))]
 pub fn next(f: Face) -> Face
     ensures { result ≡ next_of 7 f }
 {
-    if f.size == 0 {
-        return Face {
+    match f.size {
+        0 => Face {
             size: 1,
-            a: 0,
-            b: 0,
-            c: 0,
-        };
+            ..Face::default()
+        },
+        1 => after_one(f),
+        2 => after_two(f),
+        _ => after_three(f),
     }
-    if f.size == 1 {
-        return after_one(f);
-    }
-    if f.size == 2 {
-        return after_two(f);
-    }
-    after_three(f)
 }
 
 // The seven marks of a face; a member that is none of the seven has none.
@@ -135,6 +124,7 @@ pub fn marks(f: Face) -> [bool; 7]
     ensures { result ≡ face_marks f }
 {
     let mut t = [false; 7];
+    // Stays: the members are three fields, no slice to go over.
     for s in 0..f.size {
         let c = member(f, s);
         if c < 7 {

@@ -9,6 +9,7 @@ use std::io::{self, Read, Write};
 
 // Reads until buf is full, the input ends or a read fails, since one read may give fewer bytes than there are. Returns how many bytes it put at the start of buf,
 // and the failure.
+// Stays a `while`: how far a turn comes is the reader's to say.
 fn read_full<R: Read>(input: &mut R, buf: &mut [u8]) -> (usize, io::Result<()>)
     ensures fits { result.0 ≤ length buf.new }
     ensures bytes { Consumes (R.remaining input.old) (R.remaining input.new) (take result.0 buf.new) }

@@ -2,29 +2,41 @@
 use Prim.Native.Nat.{ℕ, zero, suc, ◌+◌, ◌*◌, ◌/◌, ◌-◌, ◌<◌, ◌≤◌}
 use mathlib.Core.Path.{◌≡◌, refl, sym, ap, ◌∙◌}
 use mathlib.Core.Bool.{Bool, true, false, ◌&&◌}
-use mathlib.Core.List.{List, [], ◌∷◌, ◌++◌}
+use mathlib.Core.List.{List, [], ◌∷◌, ◌++◌, map}
 use native.Mathlib.Omega.{arith}
 use native.Mathlib.Nat.{add_assoc, add-zero}
 use native.Mathlib.Numerals.{sub-one}
-use lib.ListN.{length, drop, length-drop}
+use lib.ListN.{length, take, drop, length-drop}
 use lib.Seq.{get_or-drop}
+use Rattle.std.proofs.lemmas.List.{get_or-take}
 use lib.Dec.{eqb, leb}
 use borrow.Author.Tests.{leb-true, eqb-true}
 use Rattle.laws.specs.Choice.{unless}
 use Rattle.laws.proofs.Choices.{both}
 use Rattle.bits.specs.Bytes.{u32_at, u64_at}
-use Rattle.house.specs.declared.House.TheVariants.{Malformed, File}
+use Rattle.std.specs.Simd.{first_chunks}
+use Rattle.std.specs.Prelude.{Option, None, Some}
+use Rattle.house.specs.declared.Layout.{Layout}
 use Rattle.house.specs.declared.Quote.{Quote}
-use Rattle.house.specs.File.{house_of, house_with, quote_at, quotes, records_at, records_of}
+use Rattle.house.specs.File.{File, house_of, house_with, quote_at, quote_of, quotes, records_at, records_of}
 
 -- what the counts that were read say
 pub read : (s : List ℕ) (c e n : ℕ) → c ≡ u32_at s 0 → e ≡ u32_at s (4 + 88 * c) → n ≡ u32_at s (16 + 88 * c) → house_of s ≡ house_with c e n (length s)
 unfolding house_of
 read s c e n p q r = rw (r, q, p)
 
+-- the counts of a layout
+abbrev settings_in : Option Layout → ℕ
+settings_in None = 0
+settings_in (Some h) = h.settings
+
+abbrev count_in : Option Layout → ℕ
+count_in None = 0
+count_in (Some h) = h.count
+
 -- the inverse
-picked : (b : Bool) (c n v m : ℕ) → unless b Malformed (File c n) ≡ File v m → (b ≡ true) × (c ≡ v) × (n ≡ m)
-picked true c n v m h = (refl, cc, cc)
+picked : (b : Bool) (c n v m : ℕ) → unless b None (File c n) ≡ File v m → (b ≡ true) × (c ≡ v) × (n ≡ m)
+picked true c n v m h = (refl, ap settings_in h, ap count_in h)
 picked false c n v m h = absurd (let z : ◌≡◌ {A = ℕ} 0 1 = cc in omega arith)
 
 file_with : (c e n len v m : ℕ) → File v m ≡ house_with c e n len → (v ≤ 1) × (m ≤ 256) × (len ≡ 20 + 88 * v + 32 * m)
@@ -81,3 +93,31 @@ records_drop s v n e =
 
 pub records_long : (s : List ℕ) → length (records_of s) ≡ length s / 32
 records_long s = quotes_length s 0 (length s / 32)
+
+-- ---- records cut out of bytes, 32 bytes each
+
+u64_taken : (s : List ℕ) (n at : ℕ) → at + 8 ≤ n → u64_at (take n s) at ≡ u64_at s at
+unfolding u64_at
+u64_taken s n at h =
+    rw (
+      get_or-take n s at 0 (omega arith),
+      get_or-take n s (at + 1) 0 (omega arith),
+      get_or-take n s (at + 2) 0 (omega arith),
+      get_or-take n s (at + 3) 0 (omega arith),
+      get_or-take n s (at + 4) 0 (omega arith),
+      get_or-take n s (at + 4 + 1) 0 (omega arith),
+      get_or-take n s (at + 4 + 2) 0 (omega arith),
+      get_or-take n s (at + 4 + 3) 0 (omega arith),
+    )
+
+quote_taken : (s : List ℕ) → quote_of (take 32 s) ≡ quote_of s
+unfolding quote_at
+quote_taken s = rw (u64_taken s 32 0 (omega arith), u64_taken s 32 8 (omega arith), u64_taken s 32 16 (omega arith), u64_taken s 32 24 (omega arith))
+
+pub quotes_cut : (s : List ℕ) (n : ℕ) → map quote_of (first_chunks 32 n s) ≡ quotes s 0 n
+unfolding quotes
+quotes_cut s zero = refl
+quotes_cut s (suc n) = rw (quote_taken s, quotes_cut (drop 32 s) n, quotes_drop s 32 0 n)
+
+pub records_cut : (s : List ℕ) → map quote_of (first_chunks 32 (length s / 32) s) ≡ records_of s
+records_cut s = quotes_cut s (length s / 32)

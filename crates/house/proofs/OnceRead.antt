@@ -8,9 +8,8 @@ use native.Mathlib.Nat.{add-zero}
 use lib.ListN.{length, get_or}
 use Rattle.laws.specs.Floats.{f64}
 use Rattle.bits.specs.Bytes.{u64_at}
-use Rattle.house.specs.declared.House.TheVariants.{File}
 use Rattle.house.specs.declared.Quote.{Quote}
-use Rattle.house.specs.File.{house_of, f64_at, tau_place, tau_of, settings_at, config_of, quote_at, quotes, records_at}
+use Rattle.house.specs.File.{File, house_of, f64_at, tau_place, tau_of, settings_at, config_of, quote_at, quotes, records_at}
 use Rattle.house.specs.Repeats.{among, unrepeated, kept_after, kept}
 use Rattle.house.specs.Taken.{kept_for, kept_of}
 use Rattle.house.specs.Encode.{file_bytes, Bytes, Wide, AllWide, words_from, once_for, once_of}

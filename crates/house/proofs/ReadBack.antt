@@ -9,8 +9,7 @@ use lib.Seq.{get_or-append-add}
 use borrow.Author.Tests.{le-leb, eq-eqb}
 use Rattle.bits.specs.Bytes.{u32_at, u64_at}
 use Rattle.house.specs.declared.Quote.{Quote}
-use Rattle.house.specs.declared.House.TheVariants.{File}
-use Rattle.house.specs.File.{house_of, settings_by, quote_at, quotes}
+use Rattle.house.specs.File.{File, house_of, settings_by, quote_at, quotes}
 use Rattle.house.specs.Encode.{le, words_bytes, words_of, quotes_bytes, file_bytes, Wide, AllWide}
 use Rattle.house.proofs.Files.{read}
 

@@ -1,41 +1,45 @@
 -- The number that refuses records, and what is taken of them, by the counts that the code makes; what is known where nothing refuses. Assumes nothing.
 use Prim.Native.Nat.{ℕ, ◌*◌, ◌/◌, ◌≤◌}
 use mathlib.Core.Path.{◌≡◌, sym, ap, ◌∙◌}
-use mathlib.Core.Bool.{Bool, true, false, not, ◌&&◌}
+use mathlib.Core.Bool.{Bool, true, ◌&&◌}
 use mathlib.Core.List.{List, [], map}
 use native.Mathlib.Omega.{arith}
-use lib.ListN.{length}
+use lib.ListN.{length, length-map}
 use lib.Dec.{leb}
 use lib.Ieee.{Float}
-use borrow.Author.Tests.{leb-true, le-leb, not-false}
+use borrow.Author.Tests.{leb-true, le-leb}
 use Rattle.laws.specs.Choice.{unless}
 use Rattle.laws.specs.Room.{at_front}
 use Rattle.laws.proofs.Choices.{both, passed_one}
 use Rattle.records.specs.declared.FitConfig.{FitConfig}
 use Rattle.records.specs.Settings.{sizes_hold}
-use Rattle.house.specs.declared.House.TheVariants.{File}
 use Rattle.house.specs.declared.Quote.{Quote}
-use Rattle.house.specs.File.{house_of, quotes, records_at, records_of}
+use Rattle.house.specs.File.{File, house_of, quote_of, records_at, records_of}
 use Rattle.house.specs.Check.{all_pass}
 use Rattle.house.specs.Repeats.{all_agree, kept}
 use Rattle.house.specs.Taken.{intake_number, taken_of, kept_for, kept_of}
-use Rattle.house.proofs.Files.{records_long}
+use Rattle.std.specs.Simd.{first_chunks}
+use Rattle.house.proofs.Files.{records_cut}
 
-module _ (s : List ℕ) where
+-- what the tests of some records come to, of those that were cut out of bytes
+module _ (s : List ℕ) (sent : List (List ℕ)) (e : sent ≡ first_chunks 32 (length s / 32) s) where
+  cut : map quote_of sent ≡ records_of s
+  cut = ap (map quote_of) e ∙ records_cut s
+
   pub intake_is :
       (config : FitConfig) (room slots : ℕ)
-      → unless (leb (length s / 32 * 4) room && leb (length s / 32) slots) 12 (unless (sizes_hold (length s / 32) config) 11 (unless (all_pass (quotes s 0 (length s / 32))) 10 (unless (all_agree (quotes s 0 (length s / 32))) 44 0))) ≡ intake_number config (records_of s) room slots
+      → unless (leb (length sent * 4) room && leb (length sent) slots) 12 (unless (sizes_hold (length sent) config) 11 (unless (all_pass (map quote_of sent)) 10 (unless (all_agree (map quote_of sent)) 44 0))) ≡ intake_number config (records_of s) room slots
   unfolding intake_number
-  intake_is config room slots = rw (records_long s)
+  intake_is config room slots = rw (← cut, length-map)
 
-  pub taken_is : (a b c : ℕ) → unless (leb (length s / 32) a && leb (length s / 32) b && leb (length s / 32) c) [] (kept (quotes s 0 (length s / 32))) ≡ taken_of (records_of s) a b c
+  pub taken_is : (a b c : ℕ) → unless (leb (length sent) a && leb (length sent) b && leb (length sent) c) [] (kept (map quote_of sent)) ≡ taken_of (records_of s) a b c
   unfolding taken_of
-  taken_is a b c = rw (records_long s)
+  taken_is a b c = rw (← cut, length-map)
 
 -- each column has room for n values where the code's test says so
-pub columns_room : (n a b c : ℕ) (r : Bool) → r ≡ (leb n a && leb n b && leb n c) → not r ≡ false → (n ≤ a) × (n ≤ b) × (n ≤ c)
-columns_room n a b c r e h =
-    let p = both (leb n a && leb n b) (leb n c) (sym e ∙ not-false r h) in
+pub columns_room : (n a b c : ℕ) {r : Bool} → r ≡ (leb n a && leb n b && leb n c) → r ≡ true → (n ≤ a) × (n ≤ b) × (n ≤ c)
+columns_room n a b c e h =
+    let p = both (leb n a && leb n b) (leb n c) (sym e ∙ h) in
     let q = both (leb n a) (leb n b) p.0 in
     (leb-true n a q.0, leb-true n b q.1, leb-true n c p.1)
 

@@ -1,9 +1,8 @@
 -- The bytes of a house file from what it says. Definitions only.
 -- docs/METHOD.md, 'Repeats and the house file'.
-use Rattle.std.specs.Prelude.{ℕ, zero, suc, ◌+◌, ◌*◌, ◌/◌, ◌%◌, ◌^◌, ◌<◌, List, [], ◌∷◌, ◌++◌, length, get_or}
+use Rattle.std.specs.Prelude.{ℕ, zero, suc, ◌+◌, ◌*◌, ◌/◌, ◌%◌, ◌^◌, ◌<◌, Option, None, Some, List, [], ◌∷◌, ◌++◌, length, get_or}
 use Rattle.bits.specs.Bytes.{u64_at}
-use Rattle.house.specs.declared.House.{House}
-use Rattle.house.specs.declared.House.TheVariants.{Malformed, File}
+use Rattle.house.specs.declared.Layout.{Layout}
 use Rattle.house.specs.declared.Quote.{Quote}
 use Rattle.house.specs.File.{house_of, tau_place, records_at}
 use Rattle.house.specs.Repeats.{kept}
@@ -49,9 +48,9 @@ words_from s at zero = []
 words_from s at (suc n) = u64_at s at ∷ words_from s (at + 8) n
 
 -- the file that holds only the first of each record, with the same settings and tau
-abbrev pub once_for : List ℕ → House → List ℕ
-once_for s Malformed = s
-once_for s (File c n) = file_bytes c (words_from s 4 (11 * c)) (u64_at s (tau_place c)) (kept (records_at s c n))
+abbrev pub once_for : List ℕ → Option Layout → List ℕ
+once_for s None = s
+once_for s (Some h) = file_bytes h.settings (words_from s 4 (11 * h.settings)) (u64_at s (tau_place h.settings)) (kept (records_at s h.settings h.count))
 
 unfoldable pub once_of : List ℕ → List ℕ
 once_of s = once_for s (house_of s)

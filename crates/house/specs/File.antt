@@ -1,21 +1,24 @@
 -- The house file: where its three sections stand, when it is well formed, and what it says. Definitions only.
 -- docs/METHOD.md, 'Repeats and the house file'.
-use Rattle.std.specs.Prelude.{ℕ, zero, suc, ◌+◌, ◌*◌, ◌/◌, ◌&&◌, cond, List, [], ◌∷◌, length, leb, eqb, Float}
+use Rattle.std.specs.Prelude.{ℕ, zero, suc, ◌+◌, ◌*◌, ◌/◌, ◌&&◌, cond, Option, None, Some, List, [], ◌∷◌, length, leb, eqb, Float}
 use Rattle.laws.specs.Choice.{unless}
 use Rattle.laws.specs.Floats.{f64}
 use Rattle.bits.specs.Bytes.{u32_at, u64_at}
 use Rattle.records.specs.declared.FitConfig.{FitConfig}
 use Rattle.records.specs.Settings.{defaults_of}
-use Rattle.house.specs.declared.House.{House}
-use Rattle.house.specs.declared.House.TheVariants.{Malformed, File}
+use Rattle.house.specs.declared.Layout.{Layout}
 use Rattle.house.specs.declared.Quote.{Quote}
 
+-- a well-formed file with c settings records and n observations
+abbrev pub File : ℕ → ℕ → Option Layout
+File c n = Some record { settings = c; count = n }
+
 -- settings count c is 0 or 1, expiry count e is 1, observation count n is at most 256, and the file is as long as they say
-abbrev pub house_with : ℕ → ℕ → ℕ → ℕ → House
-house_with c e n len = unless (leb c 1 && (eqb e 1 && (leb n 256 && eqb len (20 + 88 * c + 32 * n)))) Malformed (File c n)
+abbrev pub house_with : ℕ → ℕ → ℕ → ℕ → Option Layout
+house_with c e n len = unless (leb c 1 && (eqb e 1 && (leb n 256 && eqb len (20 + 88 * c + 32 * n)))) None (File c n)
 
 -- the settings count stands first, the expiry count after the settings, the observation count after tau; what is past the end reads as 0
-unfoldable pub house_of : List ℕ → House
+unfoldable pub house_of : List ℕ → Option Layout
 house_of s = house_with (u32_at s 0) (u32_at s (4 + 88 * u32_at s 0)) (u32_at s (16 + 88 * u32_at s 0)) (length s)
 
 -- the float whose bits stand at a place
@@ -58,6 +61,10 @@ config_of s settings = cond (eqb settings 0) defaults_of (settings_at s)
 unfoldable pub quote_at : List ℕ → ℕ → Quote
 quote_at s at =
     record { number = u64_at s at; k = u64_at s (at + 8); w = u64_at s (at + 16); weight = u64_at s (at + 24) }
+
+-- the record that some bytes begin with
+abbrev pub quote_of : List ℕ → Quote
+quote_of bytes = quote_at bytes 0
 
 -- n records, the first at a place
 unfoldable pub quotes : List ℕ → ℕ → ℕ → List Quote

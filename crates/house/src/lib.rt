@@ -1,21 +1,23 @@
 // The house file, and records as they stand in it. Nothing is copied out of the bytes but what is kept: counts and places say where each value stands. Every public function answers on every byte string.
 #![tactic(auto)]
 
-ghost use Rattle.std.specs.Prelude.{◌≡◌, ◌&&◌, map, ◌+◌, ◌*◌, ◌/◌, ◌≤◌, ◌<◌, leb, length};
+ghost use Rattle.std.specs.Prelude.{◌≡◌, ◌&&◌, map, ◌*◌, ◌≤◌, ◌<◌, ◌^◌, leb, length};
 ghost use Rattle.laws.specs.Room.{at_front};
-ghost use Rattle.house.specs.File.{house_of, f64_at, tau_of, settings_at, config_of, quote_at, quotes, records_of};
+ghost use Rattle.refusals.specs.Numbers.{number_in};
+ghost use Rattle.house.specs.File.{house_of, f64_at, tau_of, settings_at, config_of, quote_of, records_of};
 ghost use Rattle.house.specs.Check.{k_of, w_of, weight_of, quote_passes, all_pass};
 ghost use Rattle.house.specs.Repeats.{same_content, same_quote, all_agree, among, kept};
 ghost use Rattle.house.specs.Next.{agrees_next};
 ghost use Rattle.house.specs.Taken.{intake_number, taken_of};
 
 use records::FitConfig;
+use refusals::Refusal;
 
-// How many settings records (0 or 1) and how many observations a well-formed file has.
+// What a well-formed file says of its sections: how many settings records (0 or 1) and how many observations it has.
 #[derive(Clone, Copy)]
-pub enum House {
-    Malformed,
-    File { settings: usize, count: usize },
+pub struct Layout {
+    pub settings: usize,
+    pub count: usize,
 }
 
 // A record as the file has it: the quote number, and the bits of three floats.
@@ -27,29 +29,30 @@ pub struct Quote {
     pub weight: u64,
 }
 
-pub fn house_of(s: &[u8]) -> House
+// None of bytes that are not a house file.
+pub fn house_of(s: &[u8]) -> Option<Layout>
     ensures { result ≡ house_of s.now }
 {
     let c = bits::u32_at(s, 0) as usize;
     if 1 < c {
-        return House::Malformed;
+        return None;
     }
     let expiries = bits::u32_at(s, 4 + 88 * c);
     if expiries != 1 {
-        return House::Malformed;
+        return None;
     }
     let n = bits::u32_at(s, 16 + 88 * c) as usize;
     if 256 < n {
-        return House::Malformed;
+        return None;
     }
     let size = 20 + 88 * c + 32 * n;
     if s.len() != size {
-        return House::Malformed;
+        return None;
     }
-    House::File {
+    Some(Layout {
         settings: c,
         count: n,
-    }
+    })
 }
 
 // ---- tau and the settings
@@ -64,7 +67,7 @@ fn f64_at(s: &[u8], at: usize) -> f64
 pub fn tau_of(s: &[u8], settings: usize) -> f64
     ensures { result ≡ tau_of s.now settings }
 {
-    f64_at(s, bits::pick_count(settings == 0, 8, 96))
+    f64_at(s, bits::pick(settings == 0, 8, 96))
 }
 
 // The eleven values of a settings record.
@@ -97,16 +100,21 @@ pub fn config_of(s: &[u8], settings: usize) -> FitConfig
 
 // ---- the checks that come before repeats are dropped
 
-// The record that starts at a place.
-fn quote_at(s: &[u8], at: usize) -> Quote
-    requires { at ≤ length s.now }
-    ensures { result ≡ quote_at s.now at }
+// A record's number, and the whole record.
+fn number_of(bytes: &[u8; 32]) -> u64
+    ensures { result ≡ (quote_of bytes.now).number }
+{
+    bits::u64_at(bytes, 0)
+}
+
+fn quote_of(bytes: &[u8; 32]) -> Quote
+    ensures { result ≡ quote_of bytes.now }
 {
     Quote {
-        number: bits::u64_at(s, at),
-        k: bits::u64_at(s, at + 8),
-        w: bits::u64_at(s, at + 16),
-        weight: bits::u64_at(s, at + 24),
+        number: bits::u64_at(bytes, 0),
+        k: bits::u64_at(bytes, 8),
+        w: bits::u64_at(bytes, 16),
+        weight: bits::u64_at(bytes, 24),
     }
 }
 
@@ -116,28 +124,18 @@ fn quote_passes(q: Quote) -> bool
     records::passes(bits::f64_of(q.k), bits::f64_of(q.w), bits::f64_of(q.weight))
 }
 
-// Whether each of n records passes check 10.
-fn all_pass(s: &[u8], n: usize) -> bool
-    requires { 32 * n ≤ length s.now }
-    ensures { result ≡ all_pass (quotes s.now 0 n) }
+// Whether each of some records passes check 10.
+fn all_pass(sent: &[[u8; 32]]) -> bool
+    ensures { result ≡ all_pass (map quote_of sent.now) }
 {
-    let mut at = 0;
-    let mut left = n;
-    while 0 < left {
-        if !quote_passes(quote_at(s, at)) {
-            return false;
-        }
-        at += 32;
-        left -= 1;
-    }
-    true
+    sent.iter().all(|bytes| quote_passes(quote_of(bytes)))
 }
 
 // Room for four residual numbers and one capped position for every record.
-fn room_holds(s: &[u8], room: usize, slots: usize) -> bool
-    ensures { result ≡ leb (length s.now / 32 * 4) room && leb (length s.now / 32) slots }
+fn room_holds(n: usize, room: usize, slots: usize) -> bool
+    requires { n * 4 < 2 ^ 64 }
+    ensures { result ≡ leb (n * 4) room && leb n slots }
 {
-    let n = s.len() / 32;
     (n * 4 <= room) & (n <= slots)
 }
 
@@ -147,118 +145,86 @@ fn same_content(a: Quote, b: Quote) -> bool
     (a.k == b.k) & (a.w == b.w) & (a.weight == b.weight)
 }
 
-// Whether the next of n records with the number of q has its content, or there is none; the first of them stands at a place.
-fn agrees_next(s: &[u8], from: usize, n: usize, q: Quote) -> bool
-    requires { from + 32 * n ≤ length s.now }
-    ensures { result ≡ agrees_next q (quotes s.now from n) }
+// Whether the next record with the number of q has its content, or there is none.
+fn agrees_next(q: Quote, after: &[[u8; 32]]) -> bool
+    ensures { result ≡ agrees_next q (map quote_of after.now) }
 {
-    let mut at = from;
-    let mut left = n;
-    while 0 < left {
-        let same_number = q.number == bits::u64_at(s, at);
-        if same_number {
-            return same_content(q, quote_at(s, at));
+    for bytes in after {
+        if number_of(bytes) == q.number {
+            return same_content(q, quote_of(bytes));
         }
-        at += 32;
-        left -= 1;
     }
     true
 }
 
-// Whether no number of n records has two contents. Each is compared with the next record of its number alone, which answers for those after it.
-fn all_agree(s: &[u8], n: usize) -> bool
-    requires { 32 * n ≤ length s.now }
-    ensures { result ≡ all_agree (quotes s.now 0 n) }
+// Whether no number of some records has two contents. Each is compared with the next record of its number alone, which answers for those after it.
+fn all_agree(sent: &[[u8; 32]]) -> bool
+    ensures { result ≡ all_agree (map quote_of sent.now) }
 {
-    let mut at = 0;
-    let mut left = n;
-    while 0 < left {
-        let q = quote_at(s, at);
-        at += 32;
-        left -= 1;
-        if !agrees_next(s, at, left, q) {
+    for (i, bytes) in sent.iter().enumerate() {
+        if !agrees_next(quote_of(bytes), &sent[i + 1..]) {
             return false;
         }
     }
     true
 }
 
-// 12, 11, 10, 44 or 0: what refuses records, 32 bytes each, before repeats are dropped.
-pub fn intake_number(s: &[u8], config: FitConfig, room: usize, slots: usize) -> u32
-    ensures { result ≡ intake_number config (records_of s.now) room slots }
+// What refuses records, 32 bytes each, before repeats are dropped: 12, 11, 10 or 44.
+pub fn check_intake(s: &[u8], config: FitConfig, room: usize, slots: usize) -> Result<(), Refusal>
+    ensures { number_in result ≡ intake_number config (records_of s.now) room slots }
 {
-    let enough = room_holds(s, room, slots);
-    if !enough {
-        return 12;
+    let (sent, _) = s.as_chunks::<32>();
+    let n = sent.len();
+    if !room_holds(n, room, slots) {
+        return Err(Refusal::Lengths);
     }
-    let n = s.len() / 32;
-    let sizes = records::sizes_hold(n, config);
-    if !sizes {
-        return 11;
+    if !records::sizes_hold(n, config) {
+        return Err(Refusal::Size);
     }
-    let observations = all_pass(s, n);
-    let agree = all_agree(s, n);
-    if !observations {
-        return 10;
+    if !all_pass(sent) {
+        return Err(Refusal::BadObservation);
     }
-    if !agree {
-        return 44;
+    if !all_agree(sent) {
+        return Err(Refusal::TwoContents);
     }
-    0
+    Ok(())
 }
 
 // ---- repeats
 
-// Whether the record at a place has the number and the content of q. Its number is read first, since most differ in it.
-fn same_at(s: &[u8], at: usize, q: Quote) -> bool
-    requires { at ≤ length s.now }
-    ensures { result ≡ same_quote (quote_at s.now at) q }
+// Whether a record has the number and the content of q. Its number is read first, since most differ in it.
+fn is_same(bytes: &[u8; 32], q: Quote) -> bool
+    ensures { result ≡ same_quote (quote_of bytes.now) q }
 {
-    let same_number = bits::u64_at(s, at) == q.number;
-    if !same_number {
-        return false;
-    }
-    same_content(quote_at(s, at), q)
+    let same_number = number_of(bytes) == q.number;
+    same_number && same_content(quote_of(bytes), q)
 }
 
-// Whether one of the first i records is the same as record i.
-fn repeated(s: &[u8], i: usize) -> bool
-    requires { 32 * i ≤ length s.now }
-    ensures { result ≡ among (quote_at s.now (32 * i)) (quotes s.now 0 i) }
+// Whether one of some records is the same as q.
+fn among(q: Quote, before: &[[u8; 32]]) -> bool
+    ensures { result ≡ among q (map quote_of before.now) }
 {
-    let q = quote_at(s, 32 * i);
-    let mut at = 0;
-    let mut left = i;
-    while 0 < left {
-        if same_at(s, at, q) {
-            return true;
-        }
-        at += 32;
-        left -= 1;
-    }
-    false
+    before.iter().any(|bytes| is_same(bytes, q))
 }
 
-// Puts what is kept of n records into three columns, and answers how many that is. Room beyond is untouched.
-fn keep(s: &[u8], n: usize, k: &mut [f64], w: &mut [f64], weight: &mut [f64]) -> usize
-    requires columns_long { (n ≤ length k.old) × (n ≤ length w.old) × (n ≤ length weight.old) }
-    requires records_there { 32 * n ≤ length s.now }
-    ensures value { result ≡ length (kept (quotes s.now 0 n)) }
-    ensures k_after { k.new ≡ at_front (map k_of (kept (quotes s.now 0 n))) k.old }
-    ensures w_after { w.new ≡ at_front (map w_of (kept (quotes s.now 0 n))) w.old }
-    ensures weight_after { weight.new ≡ at_front (map weight_of (kept (quotes s.now 0 n))) weight.old }
+// Puts what is kept of some records into three columns, and answers how many that is. Room beyond is untouched.
+fn keep(sent: &[[u8; 32]], k: &mut [f64], w: &mut [f64], weight: &mut [f64]) -> usize
+    requires { (length sent.now ≤ length k.old) × (length sent.now ≤ length w.old) × (length sent.now ≤ length weight.old) }
+    ensures value { result ≡ length (kept (map quote_of sent.now)) }
+    ensures k_after { k.new ≡ at_front (map k_of (kept (map quote_of sent.now))) k.old }
+    ensures w_after { w.new ≡ at_front (map w_of (kept (map quote_of sent.now))) w.old }
+    ensures weight_after { weight.new ≡ at_front (map weight_of (kept (map quote_of sent.now))) weight.old }
 {
-    let mut i = 0;
+    // Stays: m counts the records that are kept, and not the turns.
     let mut m = 0;
-    while i < n {
-        if !repeated(s, i) {
-            let q = quote_at(s, 32 * i);
+    for (i, bytes) in sent.iter().enumerate() {
+        let q = quote_of(bytes);
+        if !among(q, &sent[..i]) {
             k[m] = bits::f64_of(q.k);
             w[m] = bits::f64_of(q.w);
             weight[m] = bits::f64_of(q.weight);
             m += 1;
         }
-        i += 1;
     }
     m
 }
@@ -276,10 +242,9 @@ pub fn take(s: &[u8], k: &mut [f64], w: &mut [f64], weight: &mut [f64]) -> usize
     ensures w_after { w.new ≡ at_front (map w_of (taken_of (records_of s.now) (length k.old) (length w.old) (length weight.old))) w.old }
     ensures weight_after { weight.new ≡ at_front (map weight_of (taken_of (records_of s.now) (length k.old) (length w.old) (length weight.old))) weight.old }
 {
-    let n = s.len() / 32;
-    let enough = columns_hold(n, k.len(), w.len(), weight.len());
-    if !enough {
+    let (sent, _) = s.as_chunks::<32>();
+    if !columns_hold(sent.len(), k.len(), w.len(), weight.len()) {
         return 0;
     }
-    keep(s, n, k, w, weight)
+    keep(sent, k, w, weight)
 }

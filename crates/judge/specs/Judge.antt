@@ -1,41 +1,44 @@
 -- A slice judged on observations (k, w) with weights. Every operation is rounded once, in the order written. Definitions only.
 -- docs/METHOD.md, 'The end'.
-use Rattle.std.specs.Prelude.{ℕ, Bool, true, false, ◌&&◌, List, length, ◌==◌, Float}
+use Rattle.std.specs.Prelude.{ℕ, Bool, true, false, ◌&&◌, List, length, ◌==◌, Float, Result, Ok, Err, Option, Some, None, is_some}
+use Rattle.std.specs.Option.{unwrap_or}
 use Rattle.std.specs.Float.Ieee.{le}
 use Rattle.laws.specs.Loop.{for}
 use Rattle.laws.specs.Choice.{unless}
 use Rattle.laws.specs.Floats.{◌+f◌, ◌-f◌, ◌*f◌, ◌/f◌, f64, num, +0, at, finite, max_of}
 use Rattle.roots.specs.Root.{root_of}
 use Rattle.slice.specs.declared.SviSlice.{SviSlice}
-use Rattle.slice.specs.declared.Evaluated.{Evaluated}
-use Rattle.slice.specs.declared.Evaluated.TheVariants as evaluated
+use Rattle.slice.specs.declared.Values.{Values}
 use Rattle.slice.specs.Slice.{eval_raw}
 use Rattle.records.specs.declared.FitConfig.{FitConfig}
-use Rattle.judge.specs.declared.Reading.{Reading}
 use Rattle.judge.specs.declared.Residual.{Residual}
 use Rattle.judge.specs.declared.Sums.{Sums}
 
--- whether the slice evaluates, and the fitted w
-abbrev pub reading_of : Evaluated → Reading
-reading_of (evaluated.At v) = record { ok = true; w = v.w }
-reading_of (evaluated.Refused n) = record { ok = false; w = +0 }
+-- the fitted w, where the slice evaluates
+abbrev pub reading_of : Result Values ℕ → Option Float
+reading_of (Ok v) = Some v.w
+reading_of (Err n) = None
+
+-- and 0 where it does not
+abbrev pub fitted_in : Option Float → Float
+fitted_in e = unwrap_or e +0
 
 abbrev pub vol_of : Float → Float → Float
 vol_of tau w = root_of (w /f tau)
 
--- at one observation: whether the slice evaluates, the fitted w, and the observed minus the fitted volatility
+-- at one observation: the fitted w, where the slice evaluates, and the observed minus the fitted volatility
 unfoldable pub residual_at : SviSlice → Float → Float → Residual
 residual_at s k w =
     let e = reading_of (eval_raw s k) in
-    record { ok = e.ok; fitted = e.w; vol = vol_of s.tau w -f vol_of s.tau e.w }
+    record { fitted = e; vol = vol_of s.tau w -f vol_of s.tau (fitted_in e) }
 
 -- sum_sq, objective_params and total_weight, one observation further
 unfoldable pub added_to : Sums → Residual → Float → Float → Sums
 added_to t r w weight =
     record {
-      ok = t.ok && r.ok;
+      ok = t.ok && is_some r.fitted;
       squares = t.squares +f r.vol *f r.vol;
-      params = t.params +f weight *f (r.fitted -f w) *f (r.fitted -f w);
+      params = t.params +f weight *f (fitted_in r.fitted -f w) *f (fitted_in r.fitted -f w);
       weight = t.weight +f weight;
     }
 

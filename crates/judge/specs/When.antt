@@ -1,10 +1,9 @@
 -- When a slice fails on observations with weights: the conditions of document 01's numbers 8 and 9. Definitions only.
 -- docs/METHOD.md, 'The end'.
-use Rattle.std.specs.Prelude.{◌≡◌, ℕ, ◌<◌, true, false, List, length, Float}
+use Rattle.std.specs.Prelude.{◌≡◌, ℕ, ◌<◌, true, false, List, length, Float, Err}
 use Rattle.std.specs.Float.Ieee.{lt, le}
 use Rattle.laws.specs.Floats.{◌+f◌, ◌*f◌, f64, at, finite}
 use Rattle.slice.specs.declared.SviSlice.{SviSlice}
-use Rattle.slice.specs.declared.Evaluated.TheVariants as evaluated
 use Rattle.slice.specs.Slice.{number_of, eval_raw}
 use Rattle.records.specs.declared.FitConfig.{FitConfig}
 use Rattle.judge.specs.Judge.{sums_of, rmse_of}
@@ -24,7 +23,7 @@ module _ (c : FitConfig) (s : SviSlice) (ks ws weights : List Float) where
   -- 8: the slice fails one of its tests, or does not evaluate at some observation, or objective_params is not finite or not at most objective + (1e-9 objective + tolerance total_weight a_max a_max)
   pub data OutOfDomain (a_max objective : Float) : Type 0 where
     bad_slice : ¬ (number_of s ≡ 0) → OutOfDomain a_max objective
-    no_value : (i n : ℕ) → i < length ks → eval_raw s (at ks i) ≡ evaluated.Refused n → OutOfDomain a_max objective
+    no_value : (i n : ℕ) → i < length ks → eval_raw s (at ks i) ≡ Err n → OutOfDomain a_max objective
     params_not_finite : finite (params_of s ks ws weights) ≡ false → OutOfDomain a_max objective
     params_above :
         le (params_of s ks ws weights) (objective +f (f64 0x3e11_2e0b_e826_d695 *f objective +f c.feasibility_tolerance *f total_weight s ks ws weights *f a_max *f a_max)) ≡ false

@@ -6,25 +6,18 @@ ghost use Rattle.slice.specs.Slice.{eval_raw};
 ghost use Rattle.judge.specs.Judge.{reading_of, residual_at, added_to, sums_of, matched_of, matched_sums, highest_of, params_hold, rmse_of, rmse_holds};
 
 use records::FitConfig;
-use slice::{Evaluated, SviSlice};
+use slice::SviSlice;
 
-// Whether a slice evaluates, and the fitted w.
-#[derive(Clone, Copy)]
-pub struct Reading {
-    pub ok: bool,
-    pub w: f64,
-}
-
-// Of one observation: whether the slice evaluates there, the fitted w, and the observed minus the fitted volatility.
+// Of one observation: the fitted w, where the slice evaluates there, and the observed minus the fitted volatility.
 #[derive(Clone, Copy)]
 pub struct Residual {
-    pub ok: bool,
-    pub fitted: f64,
+    pub fitted: Option<f64>,
     pub vol: f64,
 }
 
 // Over the observations: whether the slice evaluates, the squares of the vol residuals, objective_params, the total weight.
-#[derive(Clone, Copy)]
+// Stays: sums_of promises the sums also where some observation does not evaluate, so it is no Option.
+#[derive(Clone, Copy, Default)]
 pub struct Sums {
     pub ok: bool,
     pub squares: f64,
@@ -36,40 +29,29 @@ pub struct Sums {
 pub fn highest(w: &[f64], a_min: f64) -> f64
     ensures { result ≡ highest_of w.now a_min }
 {
-    let mut t = a_min;
-    for i in 0..w.len() {
-        t = bits::max(t, w[i]);
-    }
-    t
+    w.iter().fold(a_min, |t, w| bits::max(t, *w))
 }
 
-fn reading_at(s: SviSlice, k: f64) -> Reading
+fn reading_at(s: SviSlice, k: f64) -> Option<f64>
     ensures { result ≡ reading_of (eval_raw s k) }
 {
-    let e = slice::eval_tested(s, k);
-    match e {
-        Evaluated::At(v) => Reading { ok: true, w: v.w },
-        Evaluated::Refused(_) => Reading { ok: false, w: 0.0 },
-    }
+    slice::eval_tested(s, k).ok().map(|v| v.w)
 }
 
 pub fn residual_at(s: SviSlice, k: f64, w: f64) -> Residual
     ensures { result ≡ residual_at s k w }
 {
-    let e = reading_at(s, k);
-    Residual {
-        ok: e.ok,
-        fitted: e.w,
-        vol: roots::sqrt(w / s.tau) - roots::sqrt(e.w / s.tau),
-    }
+    let fitted = reading_at(s, k);
+    let vol = roots::sqrt(w / s.tau) - roots::sqrt(fitted.unwrap_or(0.0) / s.tau);
+    Residual { fitted, vol }
 }
 
 fn added(t: Sums, r: Residual, w: f64, weight: f64) -> Sums
     ensures { result ≡ added_to t r w weight }
 {
-    let d = r.fitted - w;
+    let d = r.fitted.unwrap_or(0.0) - w;
     Sums {
-        ok: t.ok & r.ok,
+        ok: t.ok & r.fitted.is_some(),
         squares: t.squares + r.vol * r.vol,
         params: t.params + weight * d * d,
         weight: t.weight + weight,
@@ -80,16 +62,16 @@ fn summed(s: SviSlice, k: &[f64], w: &[f64], weights: &[f64]) -> Sums
     requires { (length w.now ≡ length k.now) × (length weights.now ≡ length k.now) }
     ensures { result ≡ sums_of s k.now w.now weights.now }
 {
-    let mut t = Sums {
+    let none = Sums {
         ok: true,
-        squares: 0.0,
-        params: 0.0,
-        weight: 0.0,
+        ..Sums::default()
     };
-    for i in 0..k.len() {
-        t = added(t, residual_at(s, k[i], w[i]), w[i], weights[i]);
-    }
-    t
+    k.iter()
+        .zip(w)
+        .zip(weights)
+        .fold(none, |t, ((k, w), weight)| {
+            added(t, residual_at(s, *k, *w), *w, *weight)
+        })
 }
 
 // Each observation has its w and its weight.
@@ -104,16 +86,10 @@ fn matched(k: &[f64], w: &[f64], weights: &[f64]) -> bool
 pub fn sums_of(s: SviSlice, k: &[f64], w: &[f64], weights: &[f64]) -> Sums
     ensures { result ≡ matched_sums s k.now w.now weights.now }
 {
-    let equal = matched(k, w, weights);
-    if !equal {
-        return Sums {
-            ok: false,
-            squares: 0.0,
-            params: 0.0,
-            weight: 0.0,
-        };
+    if matched(k, w, weights) {
+        return summed(s, k, w, weights);
     }
-    summed(s, k, w, weights)
+    Sums::default()
 }
 
 pub fn params_hold(config: FitConfig, a_max: f64, objective: f64, t: Sums) -> bool

@@ -5,6 +5,7 @@ pub mod Somes
 pub mod Order
 pub mod Better
 pub mod Floats
+pub mod Folds
 pub mod Comparing
 pub mod Patterns
 pub mod Values

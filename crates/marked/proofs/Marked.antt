@@ -3,6 +3,7 @@ use mathlib.Core.Path.{◌≡◌}
 use mathlib.Core.List.{List, [], ◌∷◌}
 use lib.ListN.{get_or, length}
 use lib.Ieee.{Float}
+use Rattle.std.specs.Prelude.{Ok, Err}
 use Rattle.laws.specs.Floats.{f64, +0, quarter, half, one, two, four}
 use Rattle.roots.specs.Root.{root_of}
 use Rattle.roots.specs.Hypot.{hypot_of}
@@ -13,10 +14,9 @@ use Rattle.weights.specs.Weights.{median_of, capped_of}
 use Rattle.weights.proofs.Marked as weights
 use Rattle.weights.proofs.Marked.{one_to_four, ones_and, ten}
 use Rattle.slice.specs.Slice.{minimum_of, eval_of}
-use Rattle.slice.specs.declared.Level.TheVariants as level
 use Rattle.slice.proofs.Marked as slice
 use Rattle.slice.proofs.Marked.{m6_slice, w_of}
-use Rattle.surface.specs.declared.types.Bracket.TheVariants.{Segment, Refused}
+use Rattle.surface.specs.declared.types.Bracket.TheVariants.{Segment}
 use Rattle.surface.proofs.Marked as surface
 use Rattle.surface.proofs.Marked.{bracketed, m7_slices, m8_slices}
 use Rattle.diagnostics.specs.Walk.{butterfly_of}
@@ -37,12 +37,12 @@ pub record Table : Type 0 where
   pub m5 : (capped_of ten (ones_and (f64 0x4030_0000_0000_0000)) ≡ 4 ∷ []) × (capped_of ten (ones_and ten) ≡ [])
   -- M6: a slice a 0.25, b 0.5, rho 0, m 0, sigma 3 has the minimum 1.75; w at 0 is 1.75, at 4 it is 2.75
   pub m6 :
-      (minimum_of m6_slice ≡ level.Value (f64 0x3ffc_0000_0000_0000)) × (w_of (eval_of m6_slice +0) ≡ f64 0x3ffc_0000_0000_0000)
+      (minimum_of m6_slice ≡ Ok (f64 0x3ffc_0000_0000_0000)) × (w_of (eval_of m6_slice +0) ≡ f64 0x3ffc_0000_0000_0000)
       × (w_of (eval_of m6_slice four) ≡ f64 0x4006_0000_0000_0000)
   -- M7: taus 1, 2, 4 at 2: segment 0..1, x 1
-  pub m7 : bracketed m7_slices two ≡ Segment 0 1 one
+  pub m7 : bracketed m7_slices two ≡ Ok (Segment 0 1 one)
   -- M8: taus 1, 2 at 1.5: x 0.5; at 2.5: 37
-  pub m8 : (bracketed m8_slices (f64 0x3ff8_0000_0000_0000) ≡ Segment 0 1 half) × (bracketed m8_slices (f64 0x4004_0000_0000_0000) ≡ Refused 37)
+  pub m8 : (bracketed m8_slices (f64 0x3ff8_0000_0000_0000) ≡ Ok (Segment 0 1 half)) × (bracketed m8_slices (f64 0x4004_0000_0000_0000) ≡ Err 37)
   -- M9: the butterfly value at k 2, w 1, w_k 1, w_kk 0 is -0.3125
   pub m9 : butterfly_of two one one +0 ≡ f64 0xbfd4_0000_0000_0000
   -- M10: of the 21 pairs of faces the first is {0,1}, the last {5,6}

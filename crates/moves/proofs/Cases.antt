@@ -20,7 +20,7 @@ moved_ind P p s n b x y z =
 pub recentre_left : (p : Plan) (s : Search) (n : Counts) (b : PassBest) (a : Place) → can_recentre p s n b a ≡ true → n.recentres < p.max_recentres
 unfolding can_recentre
 recentre_left p s n b a e =
-    let x = both (a.m_edge || a.s_edge) (improves b.cell s.found.cell && ltb n.recentres p.max_recentres) e in
+    let x = both (a.m.inner_edge || a.s.inner_edge) (improves b.cell s.found.cell && ltb n.recentres p.max_recentres) e in
     ltb-true n.recentres p.max_recentres (both (improves b.cell s.found.cell) (ltb n.recentres p.max_recentres) x.1).1
 
 pub shrink_left : (p : Plan) (s : Search) (n : Counts) → can_shrink p s n ≡ true → n.shrinks < p.refinements

@@ -1,3 +1,2 @@
-mod Windows
 pub mod Cases
 pub mod Marked

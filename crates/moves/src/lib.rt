@@ -3,8 +3,8 @@
 
 pub mod points;
 
-ghost use Rattle.std.specs.Prelude.{◌≡◌, ◌-◌, ◌<◌};
-ghost use Rattle.moves.specs.Moves.{open_edge, place_of, improves, found_of, around, grow_of, recentred, step_on, narrowed, shrunk, stopped, can_recentre, can_shrink, moved_of};
+ghost use Rattle.std.specs.Prelude.{◌≡◌, ◌<◌};
+ghost use Rattle.moves.specs.Moves.{goes_on, was_refused, open_edge, spot_of, place_of, improves, found_of, around, grow_of, centred, recentred, step_on, narrowed_on, narrowed, shrunk, stopped, can_recentre, can_shrink, moved_of};
 
 use cell::Cell;
 use records::Counts;
@@ -46,14 +46,19 @@ pub struct Found {
     pub on_edge: bool,
 }
 
-// Where a pass's best stands, whether that is an edge beyond which the domain goes on, along each axis, and whether it is any edge.
+// Where a pass's best stands on one axis, whether that is an edge beyond which the domain goes on, and whether it is any edge.
+#[derive(Clone, Copy)]
+pub struct Spot {
+    pub point: f64,
+    pub inner_edge: bool,
+    pub edge: bool,
+}
+
+// Where a pass's best stands, on each axis.
 #[derive(Clone, Copy)]
 pub struct Place {
-    pub m: f64,
-    pub ls: f64,
-    pub m_edge: bool,
-    pub s_edge: bool,
-    pub on_any_edge: bool,
+    pub m: Spot,
+    pub s: Spot,
 }
 
 // The settings of the search, its domain, and half the domain's width along each axis.
@@ -68,12 +73,32 @@ pub struct Plan {
     pub hs_max: f64,
 }
 
+// The search goes on, has ended, or was refused by a pass with no face.
+#[derive(Clone, Copy, PartialEq, Eq)]
+pub enum Stage {
+    Going,
+    Ended,
+    Refused,
+}
+
+impl Stage {
+    pub fn goes_on(self) -> bool
+        ensures { result ≡ goes_on self }
+    {
+        self == Stage::Going
+    }
+
+    pub fn was_refused(self) -> bool
+        ensures { result ≡ was_refused self }
+    {
+        self == Stage::Refused
+    }
+}
+
 // The state of the search between passes.
-#[repr(C)]
 #[derive(Clone, Copy)]
 pub struct Search {
-    pub going: bool,
-    pub refused: bool,
+    pub stage: Stage,
     pub window: Window,
     pub smallest: f64,
     pub found: Found,
@@ -102,26 +127,23 @@ fn open_edge(k: usize, last: usize, w: Axis, d: Axis) -> bool
     ((k == 0) & (w.lo > d.lo)) | ((k == last) & (w.hi < d.hi))
 }
 
-// n - 1, or 0.
-fn below(n: usize) -> usize
-    ensures { result ≡ n - 1 }
+fn spot_of(w: Axis, d: Axis, n: usize, k: usize) -> Spot
+    ensures { result ≡ spot_of w d n k }
 {
-    if n == 0 {
-        return 0;
+    let last = n.saturating_sub(1);
+    Spot {
+        point: points::linspace_at(w.lo, w.hi, n, k),
+        inner_edge: open_edge(k, last, w, d),
+        edge: (k == 0) | (k == last),
     }
-    n - 1
 }
 
 fn place_of(p: Plan, w: Window, b: PassBest) -> Place
     ensures { result ≡ place_of p w b }
 {
-    let last = below(p.n);
     Place {
-        m: points::linspace_at(w.m.lo, w.m.hi, p.n, b.i),
-        ls: points::linspace_at(w.s.lo, w.s.hi, p.n, b.j),
-        m_edge: open_edge(b.i, last, w.m, p.domain.m),
-        s_edge: open_edge(b.j, last, w.s, p.domain.s),
-        on_any_edge: ((b.i == 0) | (b.i == last)) | ((b.j == 0) | (b.j == last)),
+        m: spot_of(w.m, p.domain.m, p.n, b.i),
+        s: spot_of(w.s, p.domain.s, p.n, b.j),
     }
 }
 
@@ -135,40 +157,39 @@ fn improving(c: Cell, b: Cell) -> bool
 fn found_of(b: PassBest, a: Place, o: Found) -> Found
     ensures { result ≡ found_of b a o }
 {
-    let c = b.cell;
-    if improving(c, o.cell) {
+    if improving(b.cell, o.cell) {
         return Found {
-            cell: c,
-            m: a.m,
-            ls: a.ls,
-            on_edge: a.on_any_edge,
+            cell: b.cell,
+            m: a.m.point,
+            ls: a.s.point,
+            on_edge: a.m.edge | a.s.edge,
         };
     }
     o
+}
+
+fn centred(a: Spot, w: Axis, d: Axis, most: f64) -> Axis
+    ensures { result ≡ centred a w d most }
+{
+    within(a.point, grown(a.inner_edge, w, most), d)
 }
 
 fn recentre(p: Plan, s: Search, n: Counts, a: Place, o: Found) -> Search
     requires { n.recentres < p.max_recentres }
     ensures { result ≡ recentred p s n a o }
 {
-    let hm = grown(a.m_edge, s.window.m, p.hm_max);
-    let hs = grown(a.s_edge, s.window.s, p.hs_max);
-    let m = within(a.m, hm, p.domain.m);
-    let ls = within(a.ls, hs, p.domain.s);
     Search {
-        going: true,
-        refused: false,
-        window: Window { m, s: ls },
-        smallest: s.smallest,
+        stage: Stage::Going,
+        window: Window {
+            m: centred(a.m, s.window.m, p.domain.m, p.hm_max),
+            s: centred(a.s, s.window.s, p.domain.s, p.hs_max),
+        },
         found: o,
         counts: Counts {
-            passes: n.passes,
             recentres: n.recentres + 1,
-            shrinks: n.shrinks,
-            cells: n.cells,
-            faces: n.faces,
-            updates: n.updates,
+            ..n
         },
+        ..s
     }
 }
 
@@ -178,14 +199,20 @@ fn step_on(a: Axis, n: usize) -> f64
     points::linspace_at(a.lo, a.hi, n, 1) - a.lo
 }
 
+// Two steps either way of c.
+fn narrow_on(c: f64, w: Axis, d: Axis, n: usize) -> Axis
+    ensures { result ≡ narrowed_on c w d n }
+{
+    within(c, 2.0 * step_on(w, n), d)
+}
+
 fn narrow(p: Plan, w: Window, o: Found) -> Window
     ensures { result ≡ narrowed p w o }
 {
-    let dm = step_on(w.m, p.n);
-    let ds = step_on(w.s, p.n);
-    let m = within(o.m, 2.0 * dm, p.domain.m);
-    let s = within(o.ls, 2.0 * ds, p.domain.s);
-    Window { m, s }
+    Window {
+        m: narrow_on(o.m, w.m, p.domain.m, p.n),
+        s: narrow_on(o.ls, w.s, p.domain.s, p.n),
+    }
 }
 
 // Counted only where it reaches a window smaller, along m, than the domain and than every shrink counted before.
@@ -197,18 +224,13 @@ fn shrink(p: Plan, s: Search, n: Counts, o: Found) -> Search
     let wide = window.m.hi - window.m.lo;
     let less = wide < s.smallest;
     Search {
-        going: true,
-        refused: false,
+        stage: Stage::Going,
         window,
         smallest: bits::pick(less, wide, s.smallest),
         found: o,
         counts: Counts {
-            passes: n.passes,
-            recentres: n.recentres,
-            shrinks: bits::pick_count(less, n.shrinks + 1, n.shrinks),
-            cells: n.cells,
-            faces: n.faces,
-            updates: n.updates,
+            shrinks: bits::pick(less, n.shrinks + 1, n.shrinks),
+            ..n
         },
     }
 }
@@ -216,14 +238,11 @@ fn shrink(p: Plan, s: Search, n: Counts, o: Found) -> Search
 fn stop(s: Search, n: Counts, o: Found) -> Search
     ensures { result ≡ stopped s n o }
 {
-    let window = s.window;
     Search {
-        going: false,
-        refused: false,
-        window,
-        smallest: s.smallest,
+        stage: Stage::Ended,
         found: o,
         counts: n,
+        ..s
     }
 }
 
@@ -231,7 +250,7 @@ fn can_recentre(p: Plan, s: Search, n: Counts, b: PassBest, a: Place) -> bool
     ensures { result ≡ can_recentre p s n b a }
 {
     let up = improving(b.cell, s.found.cell);
-    (a.m_edge | a.s_edge) & (up & (n.recentres < p.max_recentres))
+    (a.m.inner_edge | a.s.inner_edge) & (up & (n.recentres < p.max_recentres))
 }
 
 fn can_shrink(p: Plan, s: Search, n: Counts) -> bool

@@ -6,10 +6,7 @@ ghost use Rattle.moves.specs.Axis.{last_of, linspace_at};
 fn last_of(n: usize) -> usize
     ensures { result ≡ last_of n }
 {
-    if n < 2 {
-        return 1;
-    }
-    n - 1
+    n.saturating_sub(1).max(1)
 }
 
 // Point i of the n from lo to hi.

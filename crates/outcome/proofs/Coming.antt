@@ -6,6 +6,7 @@ use native.Mathlib.Omega.{arith}
 use lib.ListN.{length, take, drop, length-drop}
 use lib.Seq.{take_all}
 use lib.Ieee.{Float}
+use Rattle.std.specs.Prelude.{Option, None}
 use Rattle.laws.specs.Room.{written}
 use Rattle.laws.proofs.Choices.{number_no, number_goes}
 use Rattle.laws.proofs.Rooms as rooms
@@ -13,22 +14,20 @@ use Rattle.records.specs.declared.FitConfig.{FitConfig}
 use Rattle.records.specs.declared.FitAnswer.{FitAnswer}
 use Rattle.records.specs.Answer.{refused_with}
 use Rattle.calibrate.specs.Fit.{Fitted}
-use Rattle.house.specs.declared.House.{House}
-use Rattle.house.specs.declared.House.TheVariants.{Malformed, File}
+use Rattle.house.specs.declared.Layout.{Layout}
 use Rattle.house.specs.declared.Quote.{Quote}
-use Rattle.house.specs.File.{house_of, tau_of, config_of, records_at, records_of}
+use Rattle.house.specs.File.{File, house_of, tau_of, config_of, records_at, records_of}
 use Rattle.house.specs.Check.{k_of, w_of, weight_of}
 use Rattle.house.specs.Repeats.{kept}
 use Rattle.house.specs.Taken.{intake_number, kept_of}
 use Rattle.house.proofs.Files.{file_is, records_drop}
 use Rattle.house.proofs.Taking.{kept_file}
-use Rattle.outcome.specs.declared.Outcome.{Outcome}
-use Rattle.outcome.specs.Outcome.{outcome_with, refused_at, fit_for, quotes_outcome, outcome_for, file_outcome, settings_for, settings_of, residuals_for, capped_for}
+use Rattle.outcome.specs.Outcome.{OutcomeAnswer, outcome_with, refused_at, fit_for, quotes_outcome, outcome_for, file_outcome, settings_for, settings_of, residuals_for, capped_for}
 
 -- a refusal before the fit writes nothing
-pub none_written : {A : Type 0} (o : Outcome) (number read : ℕ) (list before : List A) → o ≡ refused_at number read → (number ≡ 0 → ⊥) → before ≡ written o.fit.number list before
+pub none_written : {A : Type 0} (o : OutcomeAnswer) (number read : ℕ) (list before : List A) → o ≡ refused_at number read → (number ≡ 0 → ⊥) → before ≡ written o.fit.number list before
 unfolding refused_with
-none_written o number read list before e h = rooms.kept o.fit.number list before (λ z. h (sym (ap (λ (x : Outcome). x.fit.number) e) ∙ z))
+none_written o number read list before e h = rooms.kept o.fit.number list before (λ z. h (sym (ap (λ (x : OutcomeAnswer). x.fit.number) e) ∙ z))
 
 module _ (tau : Float) (config : FitConfig) (qs : List Quote) (room slots : ℕ) (r : ℕ) (e : r ≡ intake_number config qs room slots) where
   pub refused_is : (r ≡ 0 → ⊥) → refused_at r (length qs) ≡ quotes_outcome tau config qs room slots
@@ -54,12 +53,12 @@ comes_to tau config qs o p a o' p' number n m ks ws weights e z en em ek ew et f
 -- ---- of a file
 
 module _ (s : List ℕ) (room slots : ℕ) where
-  pub for_house : (h : House) → h ≡ house_of s → outcome_for s h room slots ≡ file_outcome s room slots
+  pub for_house : (h : Option Layout) → h ≡ house_of s → outcome_for s h room slots ≡ file_outcome s room slots
   unfolding file_outcome
-  for_house h e = ap (λ (h : House). outcome_for s h room slots) e
+  for_house h e = ap (λ (h : Option Layout). outcome_for s h room slots) e
 
-  pub malformed_is : Malformed ≡ house_of s → refused_at 43 0 ≡ file_outcome s room slots
-  malformed_is e = for_house Malformed e
+  pub malformed_is : None ≡ house_of s → refused_at 43 0 ≡ file_outcome s room slots
+  malformed_is e = for_house None e
 
 pub settings_file : (s : List ℕ) (v n : ℕ) → File v n ≡ house_of s → config_of s v ≡ settings_of s
 unfolding settings_of
@@ -72,7 +71,7 @@ part_is s from = take_all (length s - from) (drop from s) (omega (arith, length-
 -- it comes to what the file comes to
 pub of_the_file :
     (s part : List ℕ) (v n : ℕ) → File v n ≡ house_of s → part ≡ drop (20 + 88 * v) s
-    → (tau : Float) (config : FitConfig) (o : List Float) (p : List ℕ) (r : Outcome) (o' : List Float) (p' : List ℕ) → tau ≡ tau_of s v → config ≡ config_of s v
+    → (tau : Float) (config : FitConfig) (o : List Float) (p : List ℕ) (r : OutcomeAnswer) (o' : List Float) (p' : List ℕ) → tau ≡ tau_of s v → config ≡ config_of s v
     → (r ≡ quotes_outcome tau config (records_of part) (length o) (length p))
     × ((o' ≡ written r.fit.number (residuals_for r.fit.slice (kept (records_of part))) o) × (p' ≡ written r.fit.number (capped_for config (kept (records_of part))) p))
     → (r ≡ file_outcome s (length o) (length p))

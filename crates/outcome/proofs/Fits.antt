@@ -8,6 +8,7 @@ use lib.Dec.{eqb}
 use lib.ListN.{length, length-append}
 use lib.Ieee.{Float, lt}
 use borrow.Author.Tests.{eq-eqb, eqb-true}
+use Rattle.std.specs.Prelude.{Option, None, Some}
 use Rattle.laws.specs.Choice.{unless}
 use Rattle.laws.specs.Floats.{at}
 use Rattle.laws.proofs.Choices.{cond_ind, false_true}
@@ -16,12 +17,11 @@ use Rattle.slice.specs.declared.SviSlice.{SviSlice}
 use Rattle.weights.specs.Weights.{scaled_of, capped_at, capped_of}
 use Rattle.records.specs.declared.FitConfig.{FitConfig}
 use Rattle.records.specs.declared.FitAnswer.{FitAnswer}
-use Rattle.entry.specs.Entry.{entry_number}
 use Rattle.records.specs.Answer.{refused_with}
+use Rattle.entry.specs.Entry.{entry_number}
 use Rattle.calibrate.specs.Fit.{decided_of, refused_early, capped_as, fit_of, residuals_of}
 use Rattle.calibrate.proofs.Quads.{residuals_length}
-use Rattle.house.specs.declared.House.{House}
-use Rattle.house.specs.declared.House.TheVariants.{Malformed, File}
+use Rattle.house.specs.declared.Layout.{Layout}
 use Rattle.house.specs.declared.Quote.{Quote}
 use Rattle.house.specs.File.{house_of, tau_of, config_of, records_at}
 use Rattle.house.specs.Check.{k_of, w_of, weight_of}
@@ -29,8 +29,7 @@ use Rattle.house.specs.Repeats.{kept}
 use Rattle.house.specs.Taken.{intake_number, kept_for, kept_of}
 use Rattle.house.proofs.Once.{kept_short}
 use Rattle.house.proofs.Taking.{passed, few}
-use Rattle.outcome.specs.declared.Outcome.{Outcome}
-use Rattle.outcome.specs.Outcome.{outcome_with, refused_at, fit_for, quotes_outcome, outcome_for, file_outcome, settings_for, settings_of, capped_for}
+use Rattle.outcome.specs.Outcome.{OutcomeAnswer, outcome_with, refused_at, fit_for, quotes_outcome, outcome_for, file_outcome, settings_for, settings_of, capped_for}
 
 -- four numbers for each observation
 pub residuals_long : (s : SviSlice) (ks ws : List Float) → length (residuals_of s ks ws) ≡ length ks * 4
@@ -64,7 +63,7 @@ capped_count tau c ks ws weights room slots a e z =
 module _ (tau : Float) (config : FitConfig) (qs : List Quote) (room slots : ℕ) where
   -- at most 256 are kept, and the counts are how many are kept and capped
   pub quotes_counts :
-      (o : Outcome) → o ≡ quotes_outcome tau config qs room slots → o.fit.number ≡ 0
+      (o : OutcomeAnswer) → o ≡ quotes_outcome tau config qs room slots → o.fit.number ≡ 0
       → (o.kept ≡ length (kept qs)) × (length (kept qs) ≤ 256) × (o.fit.capped ≡ length (capped_for config (kept qs)))
   unfolding quotes_outcome refused_with
   quotes_counts o e z = by (intake_number config qs room slots) (eqb (intake_number config qs room slots) 0) refl refl e
@@ -74,18 +73,18 @@ module _ (tau : Float) (config : FitConfig) (qs : List Quote) (room slots : ℕ)
           → (o.kept ≡ length (kept qs)) × (length (kept qs) ≤ 256) × (o.fit.capped ≡ length (capped_for config (kept qs)))
       by r true i f e =
           let p = passed config qs room slots (i ∙ eqb-true r 0 f) in (
-            ap (λ (x : Outcome). x.kept) e,
+            ap (λ (x : OutcomeAnswer). x.kept) e,
             omega (arith, kept_short qs, few (length qs) config p.1),
-            capped_count tau config (map k_of (kept qs)) (map w_of (kept qs)) (map weight_of (kept qs)) room slots o.fit (ap (λ (x : Outcome). x.fit) e) z,
+            capped_count tau config (map k_of (kept qs)) (map w_of (kept qs)) (map weight_of (kept qs)) room slots o.fit (ap (λ (x : OutcomeAnswer). x.fit) e) z,
           )
-      by r false i f e = false_true (sym f ∙ eq-eqb r 0 (sym (ap (λ (x : Outcome). x.fit.number) e) ∙ z))
+      by r false i f e = false_true (sym f ∙ eq-eqb r 0 (sym (ap (λ (x : OutcomeAnswer). x.fit.number) e) ∙ z))
 
 pub file_counts :
-    (s : List ℕ) (room slots : ℕ) (o : Outcome) → o ≡ file_outcome s room slots → o.fit.number ≡ 0
+    (s : List ℕ) (room slots : ℕ) (o : OutcomeAnswer) → o ≡ file_outcome s room slots → o.fit.number ≡ 0
     → (o.kept ≡ length (kept_of s)) × (length (kept_of s) ≤ 256) × (o.fit.capped ≡ length (capped_for (settings_of s) (kept_of s)))
 unfolding file_outcome kept_of settings_of refused_with
 file_counts s room slots o e z = by (house_of s) e
   where
-    by : (h : House) → o ≡ outcome_for s h room slots → (o.kept ≡ length (kept_for s h)) × (length (kept_for s h) ≤ 256) × (o.fit.capped ≡ length (capped_for (settings_for s h) (kept_for s h)))
-    by Malformed e = absurd (let x : ◌≡◌ {A = ℕ} 0 43 = sym z ∙ ap (λ (x : Outcome). x.fit.number) e in omega arith)
-    by (File v n) e = quotes_counts (tau_of s v) (config_of s v) (records_at s v n) room slots o e z
+    by : (h : Option Layout) → o ≡ outcome_for s h room slots → (o.kept ≡ length (kept_for s h)) × (length (kept_for s h) ≤ 256) × (o.fit.capped ≡ length (capped_for (settings_for s h) (kept_for s h)))
+    by None e = absurd (let x : ◌≡◌ {A = ℕ} 0 43 = sym z ∙ ap (λ (x : OutcomeAnswer). x.fit.number) e in omega arith)
+    by (Some h) e = quotes_counts (tau_of s h.settings) (config_of s h.settings) (records_at s h.settings h.count) room slots o e z

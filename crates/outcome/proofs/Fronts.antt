@@ -1,9 +1,8 @@
 -- A list that stands at the front of lent room. Assumes nothing.
-use Prim.Native.Nat.{ℕ, ◌≤◌}
+use Prim.Native.Nat.{ℕ}
 use mathlib.Core.Path.{◌≡◌, sym, ap, ◌∙◌}
 use mathlib.Core.List.{List, map}
-use native.Mathlib.Omega.{arith}
-use lib.ListN.{length, take, drop, length-append, length-map}
+use lib.ListN.{length, take, drop, length-map}
 use lib.Seq.{take_at}
 use lib.Ieee.{Float}
 use Rattle.laws.specs.Room.{at_front, written}
@@ -14,9 +13,6 @@ module _ {A : Type 0} (list l l' : List A) (e : l' ≡ at_front list l) (m : ℕ
   -- so many elements are the list
   front : take m l' ≡ list
   front = ap (take m) e ∙ take_at list (drop (length list) l) m (sym h)
-
-  within : m ≤ length l'
-  within = omega (arith, ap length e, length-append list (drop (length list) l))
 
 -- the list of an accepted answer
 module _ {A : Type 0} (n : ℕ) (list l l' : List A) (e : l' ≡ written n list l) (z : n ≡ 0) (m : ℕ) (h : m ≡ length list) where
@@ -31,5 +27,5 @@ module _ (f : Quote → Float) (qs : List Quote) (l l' : List Float) (m : ℕ) (
   pub column_front : take m l' ≡ map f qs
   column_front = front (map f qs) l l' e m (h ∙ sym (length-map qs f))
 
-  pub column_within : m ≤ length l'
-  column_within = within (map f qs) l l' e m (h ∙ sym (length-map qs f))
+  pub column_long : m ≡ length (take m l')
+  column_long = h ∙ sym (length-map qs f) ∙ sym (ap length column_front)

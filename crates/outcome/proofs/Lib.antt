@@ -1,3 +1,4 @@
+pub mod Outcomes
 pub mod Fronts
 pub mod Fits
 pub mod Coming

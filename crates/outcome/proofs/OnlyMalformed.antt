@@ -7,6 +7,7 @@ use native.Mathlib.Omega.{arith}
 use lib.Dec.{eqb, leb}
 use lib.ListN.{length}
 use lib.Ieee.{Float}
+use Rattle.std.specs.Prelude.{Option, None, Some}
 use Rattle.laws.specs.Floats.{positive}
 use Rattle.laws.proofs.Choices.{cond_ind}
 use Rattle.slice.specs.Slice.{number_of}
@@ -15,18 +16,17 @@ use Rattle.records.specs.declared.FitConfig.{FitConfig}
 use Rattle.records.specs.Settings.{settings_hold, sizes_hold}
 use Rattle.records.specs.Answer.{refused_with}
 use Rattle.entry.specs.Entry.{lengths_hold, columns_pass, range_of, span_of, checks_number, entry_number}
+use Rattle.moves.specs.Moves.{is_refused}
 use Rattle.judge.specs.Judge.{sums_of, params_hold, rmse_of, rmse_holds}
 use Rattle.calibrate.specs.Fit.{a_max_for, scaled_for, fit_search, slice_from, fit_of}
 use Rattle.calibrate.proofs.EachNumber.{late_number, answer_number}
-use Rattle.house.specs.declared.House.{House}
-use Rattle.house.specs.declared.House.TheVariants.{Malformed, File}
+use Rattle.house.specs.declared.Layout.{Layout}
 use Rattle.house.specs.declared.Quote.{Quote}
 use Rattle.house.specs.File.{house_of, tau_of, config_of, records_at}
 use Rattle.house.specs.Check.{k_of, w_of, weight_of, all_pass}
 use Rattle.house.specs.Repeats.{all_agree, kept}
 use Rattle.house.specs.Taken.{intake_number}
-use Rattle.outcome.specs.declared.Outcome.{Outcome}
-use Rattle.outcome.specs.Outcome.{quotes_outcome, outcome_for, file_outcome}
+use Rattle.outcome.specs.Outcome.{OutcomeAnswer, quotes_outcome, outcome_for, file_outcome}
 
 -- ---- the fit's own numbers are below 43
 
@@ -40,7 +40,7 @@ module _ (tau : Float) (c : FitConfig) (ks ws weights : List Float) where
       let f = fit_search c ks ws us in
       let x = slice_from tau c (range_of ks) (a_max_for c ws) f.found in
       let t = sums_of x ks ws us in
-      cond_ind Below f.refused (omega arith)
+      cond_ind Below (is_refused f) (omega arith)
       (cond_ind Below f.found.on_edge (omega arith)
       (cond_ind Below (eqb (number_of x) 0)
       (cond_ind Below (params_hold c (a_max_for c ws) f.found.cell.objective t)
@@ -97,14 +97,14 @@ intake_other config qs room slots =
 pub quotes_other : (tau : Float) (config : FitConfig) (qs : List Quote) (room slots : ℕ) → (quotes_outcome tau config qs room slots).fit.number ≡ 43 → ⊥
 unfolding quotes_outcome refused_with
 quotes_other tau config qs room slots =
-    cond_ind (λ (o : Outcome). Other o.fit.number) (eqb (intake_number config qs room slots) 0)
+    cond_ind (λ (o : OutcomeAnswer). Other o.fit.number) (eqb (intake_number config qs room slots) 0)
     (λ h. omega (arith, h, fit_below tau config (map k_of (kept qs)) (map w_of (kept qs)) (map weight_of (kept qs)) room slots))
     (intake_other config qs room slots)
 
-pub only_malformed : (s : List ℕ) (room slots : ℕ) → (file_outcome s room slots).fit.number ≡ 43 → house_of s ≡ Malformed
+pub only_malformed : (s : List ℕ) (room slots : ℕ) → (file_outcome s room slots).fit.number ≡ 43 → house_of s ≡ None
 unfolding file_outcome
 only_malformed s room slots = by (house_of s)
   where
-    by : (h : House) → (outcome_for s h room slots).fit.number ≡ 43 → h ≡ Malformed
-    by Malformed e = refl
-    by (File v n) e = absurd (quotes_other (tau_of s v) (config_of s v) (records_at s v n) room slots e)
+    by : (h : Option Layout) → (outcome_for s h room slots).fit.number ≡ 43 → h ≡ None
+    by None e = refl
+    by (Some h) e = absurd (quotes_other (tau_of s h.settings) (config_of s h.settings) (records_at s h.settings h.count) room slots e)

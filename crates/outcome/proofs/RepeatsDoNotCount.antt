@@ -9,17 +9,15 @@ use lib.ListN.{length}
 use lib.Ieee.{Float}
 use Rattle.laws.specs.Choice.{unless}
 use Rattle.records.specs.declared.FitConfig.{FitConfig}
-use Rattle.house.specs.declared.House.TheVariants.{File}
 use Rattle.house.specs.declared.Quote.{Quote}
-use Rattle.house.specs.File.{house_of, tau_of, config_of, records_at}
+use Rattle.house.specs.File.{File, house_of, tau_of, config_of, records_at}
 use Rattle.house.specs.Repeats.{kept}
 use Rattle.house.specs.Taken.{intake_number}
 use Rattle.house.specs.Encode.{Bytes, once_of}
 use Rattle.house.proofs.Files.{file_is, quotes_length}
 use Rattle.house.proofs.Once.{kept_once, kept_intake}
 use Rattle.house.proofs.OnceRead.{once_house, once_records, once_tau, once_config}
-use Rattle.outcome.specs.declared.Outcome.{Outcome}
-use Rattle.outcome.specs.Outcome.{outcome_with, refused_at, fit_for, quotes_outcome, file_outcome}
+use Rattle.outcome.specs.Outcome.{OutcomeAnswer, outcome_with, refused_at, fit_for, quotes_outcome, file_outcome}
 use Rattle.outcome.proofs.Coming.{for_house}
 
 -- at most 256 quotes, with room for all of them
@@ -56,4 +54,4 @@ module _ (s : List ℕ) (b : Bytes s) (v n : ℕ) (e : File v n ≡ house_of s) 
       sym (for_house (once_of s) room slots (File v m) (sym (once_house s b v n e)))
       ∙ read
       ∙ quotes_once (tau_of s v) (config_of s v) all room slots (omega arith) (omega arith) (omega arith)
-      ∙ ap (λ (o : Outcome). outcome_with m m o.fit) (for_house s room slots (File v n) e)
+      ∙ ap (λ (o : OutcomeAnswer). outcome_with m m o.fit) (for_house s room slots (File v n) e)

@@ -2,11 +2,14 @@
 #![tactic(auto)]
 
 ghost use Rattle.std.specs.Prelude.{◌≡◌};
+ghost use Rattle.refusals.specs.Numbers.{numbered, number_in};
 ghost use Rattle.point.specs.Point.{point_number, total_number, total_of};
+
+use refusals::Refusal;
 
 // Total implied variance w at one point, with dw/dk, d2w/dk2 and dw/dtau.
 #[repr(C)]
-#[derive(Clone, Copy)]
+#[derive(Clone, Copy, Default)]
 pub struct TotalVariance {
     pub w: f64,
     pub w_k: f64,
@@ -14,34 +17,35 @@ pub struct TotalVariance {
     pub w_tau: f64,
 }
 
-#[derive(Clone, Copy)]
-pub enum Total {
-    At(TotalVariance),
-    Refused(u32),
-}
-
-// 34 for a k that is not finite, then 35 for a tau that is not finite and positive; 0 for a good point.
-pub fn check_point(k: f64, tau: f64) -> u32
-    ensures { result ≡ point_number k tau }
+// 34 for a k that is not finite, then 35 for a tau that is not finite and positive.
+pub fn check_point(k: f64, tau: f64) -> Result<(), Refusal>
+    ensures { number_in result ≡ point_number k tau }
 {
-    let t = bits::is_finite(tau) & (0.0 < tau);
-    bits::pick_number(bits::is_finite(k), bits::pick_number(t, 0, 35), 34)
-}
-
-fn total_number(v: TotalVariance) -> u32
-    ensures { result ≡ total_number v }
-{
-    let level = bits::is_finite(v.w) & (0.0 < v.w);
-    if level {
-        let rest = bits::is_finite(v.w_k) & bits::is_finite(v.w_kk) & bits::is_finite(v.w_tau);
-        return bits::pick_number(rest, 0, 39);
+    if !bits::is_finite(k) {
+        return Err(Refusal::PointK);
     }
-    38
+    if bits::is_positive(tau) {
+        return Ok(());
+    }
+    Err(Refusal::PointTau)
+}
+
+fn check_total(v: TotalVariance) -> Result<(), Refusal>
+    ensures { number_in result ≡ total_number v }
+{
+    if !bits::is_positive(v.w) {
+        return Err(Refusal::Variance);
+    }
+    let rest = bits::is_finite(v.w_k) & bits::is_finite(v.w_kk) & bits::is_finite(v.w_tau);
+    if rest {
+        return Ok(());
+    }
+    Err(Refusal::Derivative)
 }
 
 impl TotalVariance {
-    pub fn new(w: f64, w_k: f64, w_kk: f64, w_tau: f64) -> Total
-        ensures { result ≡ total_of w w_k w_kk w_tau }
+    pub fn new(w: f64, w_k: f64, w_kk: f64, w_tau: f64) -> Result<TotalVariance, Refusal>
+        ensures { numbered result ≡ total_of w w_k w_kk w_tau }
     {
         let v = TotalVariance {
             w,
@@ -49,10 +53,7 @@ impl TotalVariance {
             w_kk,
             w_tau,
         };
-        let n = total_number(v);
-        if n == 0 {
-            return Total::At(v);
-        }
-        Total::Refused(n)
+        check_total(v)?;
+        Ok(v)
     }
 }

@@ -26,13 +26,14 @@ pub fn spread(h: &[f64; 7]) -> f64
     ensures { result ≡ spread_of h.now }
 {
     let mut acc = 1.0;
-    for c in 0..7 {
-        acc = bits::max(acc, bits::magnitude(h[c]));
+    for bound in h {
+        acc = bits::max(acc, bits::magnitude(*bound));
     }
     acc
 }
 
 // Row c of g times x; NaN where there is no such row.
+#[tactic(auto, unfolding(crate::specs::Polytope::dot_of))]
 pub fn dot(g: &[f64; 21], x: &[f64; 3], c: usize) -> f64
     ensures { result ≡ dot_of g.now x.now c }
 {
@@ -40,7 +41,7 @@ pub fn dot(g: &[f64; 21], x: &[f64; 3], c: usize) -> f64
         let k = c * 3;
         return 0.0 + g[k] * x[0] + g[k + 1] * x[1] + g[k + 2] * x[2];
     }
-    0.0 / 0.0
+    f64::NAN
 }
 
 // Whether x meets each constraint within the slack. The rows are known here, so that the compiler has no product with 1 to work out.
@@ -48,8 +49,8 @@ pub fn feasible(h: &[f64; 7], x: &[f64; 3], slack: f64) -> bool
     ensures { result ≡ feasible_of rows_of h.now 7 slack x.now }
 {
     let g = rows();
-    for c in 0..7 {
-        if !(dot(&g, x, c) - h[c] <= slack) {
+    for (c, bound) in h.iter().enumerate() {
+        if !(dot(&g, x, c) - *bound <= slack) {
             return false;
         }
     }

@@ -6,8 +6,7 @@ use Rattle.records.specs.declared.FitAnswer.{FitAnswer}
 use Rattle.calibrate.specs.Fit.{fit_of, residuals_of}
 use Rattle.house.specs.File.{records_of}
 use Rattle.house.specs.Repeats.{kept}
-use Rattle.outcome.specs.declared.Outcome.{Outcome}
-use Rattle.outcome.specs.Outcome.{bytes_outcome, residuals_for, capped_for}
+use Rattle.outcome.specs.Outcome.{OutcomeAnswer, bytes_outcome, residuals_for, capped_for}
 use Rattle.rows.specs.Rows.{read_config, fit_counts, fit_values}
 
 -- the fit under settings in rows, into the room that is lent
@@ -26,11 +25,11 @@ pub record FittedRows
   pub marked : active ≡ (fit_under tau sizes reals ks ws weights residuals capped).active
 
 -- read, kept, then the nine counts of the fit
-abbrev pub outcome_counts : Outcome → List ℕ
+abbrev pub outcome_counts : OutcomeAnswer → List ℕ
 outcome_counts o = o.read ∷ o.kept ∷ fit_counts o.fit
 
 -- what quotes in bytes come to under settings in rows, into the room that is lent
-unfoldable pub quotes_under : Float → List ℕ → List Float → List ℕ → List Float → List ℕ → Outcome
+unfoldable pub quotes_under : Float → List ℕ → List Float → List ℕ → List Float → List ℕ → OutcomeAnswer
 quotes_under tau sizes reals quotes residuals capped = bytes_outcome tau (read_config sizes reals) quotes (length residuals) (length capped)
 
 -- the contract of `port_raw_fit_quotes`: the number r and the rows of the outcome; an accepted fit writes the residuals and the capped positions of the quotes kept, a refusal neither

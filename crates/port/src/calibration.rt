@@ -2,17 +2,17 @@
 ghost use Rattle.std.specs.Prelude.{◌≡◌};
 ghost use Rattle.records.specs.Settings.{defaults_of};
 ghost use Rattle.rows.specs.Rows.{sizes_row, reals_row};
+ghost use Rattle.outcome.specs.Outcome.{outcome_with};
 ghost use Rattle.port.specs.FitRows.{outcome_counts, FittedRows, QuotesRows};
 
-use outcome::Outcome;
-use records::FitConfig;
+use records::{FitAnswer, FitConfig};
 
-fn outcome_counts(o: Outcome) -> [usize; 11]
-    ensures { result ≡ outcome_counts o }
+fn outcome_counts(read: usize, kept: usize, a: FitAnswer) -> [usize; 11]
+    ensures { result ≡ outcome_counts (outcome_with read kept a) }
 {
-    let n = rows::fits::fit_counts(o.fit);
+    let n = rows::fits::fit_counts(a);
     [
-        o.read, o.kept, n[0], n[1], n[2], n[3], n[4], n[5], n[6], n[7], n[8],
+        read, kept, n[0], n[1], n[2], n[3], n[4], n[5], n[6], n[7], n[8],
     ]
 }
 
@@ -52,11 +52,10 @@ pub fn port_raw_fit_slice(
     ensures { FittedRows tau sizes.now reals.now k.now w.now weight.now residuals.old capped.old result residuals.new capped.new counts.new values.new active.new }
 {
     let config = rows::fits::read_config(sizes, reals);
-    let a = calibrate::fit_slice(tau, config, k, w, weight, residuals, capped);
-    let ns = rows::fits::fit_counts(a);
-    *counts = ns;
-    let vs = rows::fits::fit_values(a);
-    *values = vs;
+    let fit = calibrate::fit_slice(tau, config, k, w, weight, residuals, capped);
+    let a = records::told(fit);
+    *counts = rows::fits::fit_counts(a);
+    *values = rows::fits::fit_values(a);
     let marks = a.active;
     *active = marks;
     a.number
@@ -79,11 +78,9 @@ pub fn port_raw_fit_quotes(
 {
     let config = rows::fits::read_config(sizes, reals);
     let o = outcome::of_quotes(tau, config, quotes, residuals, capped);
-    let ns = outcome_counts(o);
-    *counts = ns;
-    let a = o.fit;
-    let vs = rows::fits::fit_values(a);
-    *values = vs;
+    let a = records::told(o.fit);
+    *counts = outcome_counts(o.read, o.kept, a);
+    *values = rows::fits::fit_values(a);
     let marks = a.active;
     *active = marks;
     a.number

@@ -5,16 +5,15 @@ ghost use Rattle.rows.specs.Flag.{flag};
 ghost use Rattle.rows.specs.Slices.{range_answer, slice_answer, level_answer, values_answer};
 ghost use Rattle.rows.specs.Rows.{read_range, read_slice, range_row, slice_row, values_row};
 
-use slice::{KRange, SviSlice};
+use slice::{KRange, SviSlice, Values};
 
 // range: lo, hi.
 pub fn port_raw_k_range(lo: f64, hi: f64, range: &mut [f64; 2]) -> u32
     ensures value { result ≡ (range_answer (ranged_of lo hi)).number }
-    ensures range_after { range.new ≡ range_row (range_answer (ranged_of lo hi)).range }
+    ensures range_after { range.new ≡ range_row (range_answer (ranged_of lo hi)).value }
 {
-    let a = rows::slices::range_answer(KRange::new(lo, hi));
-    let x = a.range;
-    *range = [x.lo, x.hi];
+    let a = rows::told(KRange::new(lo, hi), KRange::default());
+    *range = [a.value.lo, a.value.hi];
     a.number
 }
 
@@ -22,7 +21,7 @@ pub fn port_raw_k_range(lo: f64, hi: f64, range: &mut [f64; 2]) -> u32
 pub fn port_raw_contains(range: &[f64; 2], k: f64) -> u32
     ensures { result ≡ flag (holds_k (read_range range.now) k) }
 {
-    bits::pick_number(KRange::contains(rows::slices::read_range(range), k), 1, 0)
+    u32::from(rows::slices::read_range(range).contains(k))
 }
 
 // range: lo, hi. slice: tau, a, b, rho, m, sigma, k_range.lo, k_range.hi.
@@ -37,18 +36,14 @@ pub fn port_raw_slice(
     slice: &mut [f64; 8],
 ) -> u32
     ensures value { result ≡ (slice_answer (made_of tau a b rho m sigma (read_range range.now))).number }
-    ensures slice_after { slice.new ≡ slice_row (slice_answer (made_of tau a b rho m sigma (read_range range.now))).slice }
+    ensures slice_after { slice.new ≡ slice_row (slice_answer (made_of tau a b rho m sigma (read_range range.now))).value }
 {
-    let x = rows::slices::slice_answer(SviSlice::new(
-        tau,
-        a,
-        b,
-        rho,
-        m,
-        sigma,
-        rows::slices::read_range(range),
-    ));
-    let s = x.slice;
+    let range = rows::slices::read_range(range);
+    let x = rows::told(
+        SviSlice::new(tau, a, b, rho, m, sigma, range),
+        SviSlice::default(),
+    );
+    let s = x.value;
     *slice = [
         s.tau,
         s.a,
@@ -67,7 +62,7 @@ pub fn port_raw_minimum(slice: &[f64; 8], value: &mut [f64; 1]) -> u32
     ensures value { result ≡ (level_answer (minimum_of (read_slice slice.now))).number }
     ensures value_after { value.new ≡ (level_answer (minimum_of (read_slice slice.now))).value ∷ [] }
 {
-    let a = rows::slices::level_answer(SviSlice::minimum(rows::slices::read_slice(slice)));
+    let a = rows::told(rows::slices::read_slice(slice).minimum(), 0.0);
     *value = [a.value];
     a.number
 }
@@ -77,7 +72,7 @@ pub fn port_raw_lee_slope(slice: &[f64; 8], value: &mut [f64; 1]) -> u32
     ensures value { result ≡ (level_answer (lee_slope_of (read_slice slice.now))).number }
     ensures value_after { value.new ≡ (level_answer (lee_slope_of (read_slice slice.now))).value ∷ [] }
 {
-    let a = rows::slices::level_answer(SviSlice::lee_slope(rows::slices::read_slice(slice)));
+    let a = rows::told(rows::slices::read_slice(slice).lee_slope(), 0.0);
     *value = [a.value];
     a.number
 }
@@ -85,9 +80,9 @@ pub fn port_raw_lee_slope(slice: &[f64; 8], value: &mut [f64; 1]) -> u32
 // slice as port_raw_slice writes it. values: w, w_k, w_kk.
 pub fn port_raw_eval(slice: &[f64; 8], k: f64, values: &mut [f64; 3]) -> u32
     ensures value { result ≡ (values_answer (eval_of (read_slice slice.now) k)).number }
-    ensures values_after { values.new ≡ values_row (values_answer (eval_of (read_slice slice.now) k)) }
+    ensures values_after { values.new ≡ values_row (values_answer (eval_of (read_slice slice.now) k)).value }
 {
-    let a = rows::slices::values_answer(SviSlice::eval(rows::slices::read_slice(slice), k));
-    *values = [a.w, a.w_k, a.w_kk];
+    let a = rows::told(rows::slices::read_slice(slice).eval(k), Values::default());
+    *values = [a.value.w, a.value.w_k, a.value.w_kk];
     a.number
 }

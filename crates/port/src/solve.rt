@@ -25,7 +25,7 @@ pub fn port_raw_solve(
     let y = s.x;
     *x = y;
     *updates = [s.updates];
-    bits::pick_number(s.ok, 1, 0)
+    u32::from(s.ok)
 }
 
 // The cell (m, sigma) over observations k, w and scaled weights: 1 where a face qualifies, else 0.
@@ -52,5 +52,5 @@ pub fn port_raw_cell(
     *values = [c.objective, x[0], x[1], x[2]];
     let marks = c.active;
     *active = marks;
-    bits::pick_number(c.some, 1, 0)
+    u32::from(c.some)
 }

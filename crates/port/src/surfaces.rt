@@ -5,7 +5,7 @@ ghost use Rattle.surface.specs.Lookup.{default_policy};
 ghost use Rattle.surface.specs.Runs.{run_of, check_run};
 ghost use Rattle.diagnostics.specs.Tally.{point_at, recorded_of, is_clean};
 ghost use Rattle.diagnostics.specs.Diagnostics.{report_clean};
-ghost use Rattle.rows.specs.Answers.{policy_number, total_answer, bracket_for, region_for, total_for, covers_for, diagnosed_for, room_for, total_row, places_row, diagnosed_counts, diagnosed_worst, check_at, report_at};
+ghost use Rattle.rows.specs.Answers.{policy_number, total_answer, bracket_for, region_for, total_for, covers_for, diagnosed_for, room_for, total_row, places_row, weight_in, is_calibrated, diagnosed_counts, diagnosed_worst, check_at, report_at};
 ghost use Rattle.rows.specs.Flag.{flag};
 
 use diagnostics::report::SurfaceDiagnostics;
@@ -19,11 +19,11 @@ use surface::types::ShortExpiryPolicy;
 pub fn port_check_point(k: f64, tau: f64) -> u32
     ensures { result ≡ point_number k tau }
 {
-    point::check_point(k, tau)
+    rows::number(point::check_point(k, tau))
 }
 
 pub fn port_raw_total(w: f64, w_k: f64, w_kk: f64, w_tau: f64, total: &mut [f64; 4]) -> u32
-    ensures { (result ≡ (total_answer (total_of w w_k w_kk w_tau)).number) × (total.new ≡ total_row (total_answer (total_of w w_k w_kk w_tau))) }
+    ensures { (result ≡ (total_answer (total_of w w_k w_kk w_tau)).number) × (total.new ≡ total_row (total_answer (total_of w w_k w_kk w_tau)).value) }
 {
     rows::answers::write_total(TotalVariance::new(w, w_k, w_kk, w_tau), total)
 }
@@ -40,7 +40,7 @@ pub fn port_default_policy() -> u32
 pub fn port_surface(slices: &[SviSlice]) -> u32
     ensures { result ≡ check_run (run_of slices.now) }
 {
-    surface::run::check_run(surface::copied(slices))
+    rows::number(surface::run::check_run(surface::copied(slices)))
 }
 
 // Where (k, tau) lies. places: below (1 or 0), lo, hi; x: the weight of hi.
@@ -52,7 +52,7 @@ pub fn port_raw_bracket(
     places: &mut [usize; 3],
     x: &mut [f64; 1],
 ) -> u32
-    ensures { (result ≡ (bracket_for (run_of slices.now) policy k tau).number) × (places.new ≡ places_row (bracket_for (run_of slices.now) policy k tau)) × (x.new ≡ (bracket_for (run_of slices.now) policy k tau).x ∷ []) }
+    ensures { (result ≡ (bracket_for (run_of slices.now) policy k tau).number) × (places.new ≡ places_row (bracket_for (run_of slices.now) policy k tau).value) × (x.new ≡ weight_in (bracket_for (run_of slices.now) policy k tau).value ∷ []) }
 {
     rows::answers::bracket_of(surface::copied(slices), policy, k, tau, places, x)
 }
@@ -64,7 +64,7 @@ pub fn port_raw_region(
     tau: f64,
     calibrated: &mut [usize; 1],
 ) -> u32
-    ensures { (result ≡ (region_for (run_of slices.now) policy k tau).number) × (calibrated.new ≡ flag (region_for (run_of slices.now) policy k tau).calibrated ∷ []) }
+    ensures { (result ≡ (region_for (run_of slices.now) policy k tau).number) × (calibrated.new ≡ flag (is_calibrated (region_for (run_of slices.now) policy k tau).value) ∷ []) }
 {
     rows::answers::region_of(surface::copied(slices), policy, k, tau, calibrated)
 }
@@ -76,7 +76,7 @@ pub fn port_raw_total_variance(
     tau: f64,
     total: &mut [f64; 4],
 ) -> u32
-    ensures { (result ≡ (total_for (run_of slices.now) policy k tau).number) × (total.new ≡ total_row (total_for (run_of slices.now) policy k tau)) }
+    ensures { (result ≡ (total_for (run_of slices.now) policy k tau).number) × (total.new ≡ total_row (total_for (run_of slices.now) policy k tau).value) }
 {
     rows::answers::total_of(surface::copied(slices), policy, k, tau, total)
 }
@@ -87,7 +87,7 @@ pub fn port_raw_covers_nodes(
     taus: &[f64],
     all: &mut [usize; 1],
 ) -> u32
-    ensures { (result ≡ (covers_for (run_of slices.now) ks.now taus.now).number) × (all.new ≡ flag (covers_for (run_of slices.now) ks.now taus.now).all ∷ []) }
+    ensures { (result ≡ (covers_for (run_of slices.now) ks.now taus.now).number) × (all.new ≡ flag (covers_for (run_of slices.now) ks.now taus.now).value ∷ []) }
 {
     rows::answers::covers_of(surface::copied(slices), ks, taus, all)
 }
@@ -106,7 +106,7 @@ pub fn port_raw_diagnose(
     counts: &mut [usize; 10],
     worst: &mut [f64; 9],
 ) -> u32
-    ensures { (result ≡ (diagnosed_for (run_of slices.now) policy ks.now taus.now butterfly_tolerance calendar_tolerance room.old).number) × (room.new ≡ room_for (run_of slices.now) policy ks.now taus.now butterfly_tolerance calendar_tolerance room.old) × (counts.new ≡ diagnosed_counts (diagnosed_for (run_of slices.now) policy ks.now taus.now butterfly_tolerance calendar_tolerance room.old)) × (worst.new ≡ diagnosed_worst (diagnosed_for (run_of slices.now) policy ks.now taus.now butterfly_tolerance calendar_tolerance room.old)) }
+    ensures { (result ≡ (diagnosed_for (run_of slices.now) policy ks.now taus.now butterfly_tolerance calendar_tolerance room.old).number) × (room.new ≡ room_for (run_of slices.now) policy ks.now taus.now butterfly_tolerance calendar_tolerance room.old) × (counts.new ≡ diagnosed_counts (diagnosed_for (run_of slices.now) policy ks.now taus.now butterfly_tolerance calendar_tolerance room.old).value) × (worst.new ≡ diagnosed_worst (diagnosed_for (run_of slices.now) policy ks.now taus.now butterfly_tolerance calendar_tolerance room.old).value) }
 {
     rows::answers::diagnose_of(
         surface::copied(slices),
@@ -132,20 +132,12 @@ pub fn port_raw_check_record(check: &mut Check, k: f64, tau: f64, value: f64, to
 pub fn port_raw_check_clean(counts: &[usize; 3], worst: &[f64; 3]) -> u32
     ensures { result ≡ flag (is_clean (check_at 0 counts.now worst.now)) }
 {
-    bits::pick_number(
-        Check::is_clean(rows::answers::check_at(counts, worst)),
-        1,
-        0,
-    )
+    u32::from(rows::answers::check_at(counts, worst).is_clean())
 }
 
 // The rows that port_raw_diagnose writes.
 pub fn port_raw_report_clean(counts: &[usize; 10], worst: &[f64; 9]) -> u32
     ensures { result ≡ flag (report_clean (report_at counts.now worst.now)) }
 {
-    bits::pick_number(
-        SurfaceDiagnostics::is_clean(rows::answers::report_at(counts, worst)),
-        1,
-        0,
-    )
+    u32::from(rows::answers::report_at(counts, worst).is_clean())
 }

@@ -8,7 +8,7 @@ ghost use Rattle.rows.specs.Rows.{read_range, read_slice, range_row, slice_row, 
 #[unsafe(no_mangle)]
 pub extern "C" fn port_raw_k_range(lo: f64, hi: f64, range: &mut [f64; 2]) -> u32
     ensures value { result ≡ (range_answer (ranged_of lo hi)).number }
-    ensures range_after { range.new ≡ range_row (range_answer (ranged_of lo hi)).range }
+    ensures range_after { range.new ≡ range_row (range_answer (ranged_of lo hi)).value }
 {
     port::slices::port_raw_k_range(lo, hi, range)
 }
@@ -32,7 +32,7 @@ pub extern "C" fn port_raw_slice(
     slice: &mut [f64; 8],
 ) -> u32
     ensures value { result ≡ (slice_answer (made_of tau a b rho m sigma (read_range range.now))).number }
-    ensures slice_after { slice.new ≡ slice_row (slice_answer (made_of tau a b rho m sigma (read_range range.now))).slice }
+    ensures slice_after { slice.new ≡ slice_row (slice_answer (made_of tau a b rho m sigma (read_range range.now))).value }
 {
     port::slices::port_raw_slice(tau, a, b, rho, m, sigma, range, slice)
 }
@@ -56,7 +56,7 @@ pub extern "C" fn port_raw_lee_slope(slice: &[f64; 8], value: &mut [f64; 1]) -> 
 #[unsafe(no_mangle)]
 pub extern "C" fn port_raw_eval(slice: &[f64; 8], k: f64, values: &mut [f64; 3]) -> u32
     ensures value { result ≡ (values_answer (eval_of (read_slice slice.now) k)).number }
-    ensures values_after { values.new ≡ values_row (values_answer (eval_of (read_slice slice.now) k)) }
+    ensures values_after { values.new ≡ values_row (values_answer (eval_of (read_slice slice.now) k)).value }
 {
     port::slices::port_raw_eval(slice, k, values)
 }

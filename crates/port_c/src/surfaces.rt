@@ -5,7 +5,7 @@ ghost use Rattle.surface.specs.Lookup.{default_policy};
 ghost use Rattle.surface.specs.Runs.{run_of, check_run};
 ghost use Rattle.diagnostics.specs.Tally.{point_at, recorded_of, is_clean};
 ghost use Rattle.diagnostics.specs.Diagnostics.{report_clean};
-ghost use Rattle.rows.specs.Answers.{policy_number, total_answer, bracket_for, region_for, total_for, covers_for, diagnosed_for, room_for, total_row, places_row, diagnosed_counts, diagnosed_worst, check_at, report_at};
+ghost use Rattle.rows.specs.Answers.{policy_number, total_answer, bracket_for, region_for, total_for, covers_for, diagnosed_for, room_for, total_row, places_row, weight_in, is_calibrated, diagnosed_counts, diagnosed_worst, check_at, report_at};
 ghost use Rattle.rows.specs.Flag.{flag};
 
 use diagnostics::tally::Check;
@@ -26,7 +26,7 @@ pub extern "C" fn port_raw_total(
     w_tau: f64,
     total: &mut [f64; 4],
 ) -> u32
-    ensures { (result ≡ (total_answer (total_of w w_k w_kk w_tau)).number) × (total.new ≡ total_row (total_answer (total_of w w_k w_kk w_tau))) }
+    ensures { (result ≡ (total_answer (total_of w w_k w_kk w_tau)).number) × (total.new ≡ total_row (total_answer (total_of w w_k w_kk w_tau)).value) }
 {
     port::surfaces::port_raw_total(w, w_k, w_kk, w_tau, total)
 }
@@ -54,7 +54,7 @@ pub extern "C" fn port_raw_bracket(
     places: &mut [usize; 3],
     x: &mut [f64; 1],
 ) -> u32
-    ensures { (result ≡ (bracket_for (run_of slices.now) policy k tau).number) × (places.new ≡ places_row (bracket_for (run_of slices.now) policy k tau)) × (x.new ≡ (bracket_for (run_of slices.now) policy k tau).x ∷ []) }
+    ensures { (result ≡ (bracket_for (run_of slices.now) policy k tau).number) × (places.new ≡ places_row (bracket_for (run_of slices.now) policy k tau).value) × (x.new ≡ weight_in (bracket_for (run_of slices.now) policy k tau).value ∷ []) }
 {
     port::surfaces::port_raw_bracket(slices, policy, k, tau, places, x)
 }
@@ -67,7 +67,7 @@ pub extern "C" fn port_raw_region(
     tau: f64,
     calibrated: &mut [usize; 1],
 ) -> u32
-    ensures { (result ≡ (region_for (run_of slices.now) policy k tau).number) × (calibrated.new ≡ flag (region_for (run_of slices.now) policy k tau).calibrated ∷ []) }
+    ensures { (result ≡ (region_for (run_of slices.now) policy k tau).number) × (calibrated.new ≡ flag (is_calibrated (region_for (run_of slices.now) policy k tau).value) ∷ []) }
 {
     port::surfaces::port_raw_region(slices, policy, k, tau, calibrated)
 }
@@ -80,7 +80,7 @@ pub extern "C" fn port_raw_total_variance(
     tau: f64,
     total: &mut [f64; 4],
 ) -> u32
-    ensures { (result ≡ (total_for (run_of slices.now) policy k tau).number) × (total.new ≡ total_row (total_for (run_of slices.now) policy k tau)) }
+    ensures { (result ≡ (total_for (run_of slices.now) policy k tau).number) × (total.new ≡ total_row (total_for (run_of slices.now) policy k tau).value) }
 {
     port::surfaces::port_raw_total_variance(slices, policy, k, tau, total)
 }
@@ -92,7 +92,7 @@ pub extern "C" fn port_raw_covers_nodes(
     taus: &[f64],
     all: &mut [usize; 1],
 ) -> u32
-    ensures { (result ≡ (covers_for (run_of slices.now) ks.now taus.now).number) × (all.new ≡ flag (covers_for (run_of slices.now) ks.now taus.now).all ∷ []) }
+    ensures { (result ≡ (covers_for (run_of slices.now) ks.now taus.now).number) × (all.new ≡ flag (covers_for (run_of slices.now) ks.now taus.now).value ∷ []) }
 {
     port::surfaces::port_raw_covers_nodes(slices, ks, taus, all)
 }
@@ -109,7 +109,7 @@ pub extern "C" fn port_raw_diagnose(
     counts: &mut [usize; 10],
     worst: &mut [f64; 9],
 ) -> u32
-    ensures { (result ≡ (diagnosed_for (run_of slices.now) policy ks.now taus.now butterfly_tolerance calendar_tolerance room.old).number) × (room.new ≡ room_for (run_of slices.now) policy ks.now taus.now butterfly_tolerance calendar_tolerance room.old) × (counts.new ≡ diagnosed_counts (diagnosed_for (run_of slices.now) policy ks.now taus.now butterfly_tolerance calendar_tolerance room.old)) × (worst.new ≡ diagnosed_worst (diagnosed_for (run_of slices.now) policy ks.now taus.now butterfly_tolerance calendar_tolerance room.old)) }
+    ensures { (result ≡ (diagnosed_for (run_of slices.now) policy ks.now taus.now butterfly_tolerance calendar_tolerance room.old).number) × (room.new ≡ room_for (run_of slices.now) policy ks.now taus.now butterfly_tolerance calendar_tolerance room.old) × (counts.new ≡ diagnosed_counts (diagnosed_for (run_of slices.now) policy ks.now taus.now butterfly_tolerance calendar_tolerance room.old).value) × (worst.new ≡ diagnosed_worst (diagnosed_for (run_of slices.now) policy ks.now taus.now butterfly_tolerance calendar_tolerance room.old).value) }
 {
     port::surfaces::port_raw_diagnose(
         slices,

@@ -2,11 +2,12 @@
 #![tactic(auto)]
 
 ghost use Rattle.std.specs.Prelude.{◌≡◌};
-ghost use Rattle.laws.specs.Floats.{positive};
+ghost use Rattle.refusals.specs.Numbers.{refusal_number, numbered};
 ghost use Rattle.records.specs.Settings.{defaults_of, settings_hold, sizes_hold};
 ghost use Rattle.records.specs.Observation.{passes as passesOf, observed_of};
-ghost use Rattle.records.specs.Answer.{no_counts, refused_with};
+ghost use Rattle.records.specs.Answer.{refused_after, accepted_answer, failure_answer, answer_in};
 
+use refusals::Refusal;
 use slice::{KRange, SviSlice};
 
 // Settings of the slice fit.
@@ -35,15 +36,9 @@ pub struct SliceObservation {
     pub weight: f64,
 }
 
-#[derive(Clone, Copy)]
-pub enum Observed {
-    At(SliceObservation),
-    Refused(u32),
-}
-
 // What the search did; `updates` are the entries that the eliminations of its faces' systems update.
 #[repr(C)]
-#[derive(Clone, Copy)]
+#[derive(Clone, Copy, Default)]
 pub struct Counts {
     pub passes: usize,
     pub recentres: usize,
@@ -53,7 +48,36 @@ pub struct Counts {
     pub updates: usize,
 }
 
-// What a fit hands back: a fitted slice and how it was found, or a refusal.
+// An accepted fit: the slice, and how it was found.
+#[derive(Clone, Copy)]
+pub struct SliceFit {
+    pub slice: SviSlice,
+    pub rmse_vol: f64,
+    pub objective: f64,
+    pub objective_params: f64,
+    pub lee_margin: f64,
+    pub a_margin: f64,
+    // The constraints active at the fit, in their order.
+    pub active: [bool; 7],
+    pub counts: Counts,
+    // How many weights were capped.
+    pub capped: usize,
+}
+
+// Why a fit is refused, with the values that belong to the refusal, and the counts of the passes before it.
+#[derive(Clone, Copy)]
+pub struct FitFailure {
+    pub why: Refusal,
+    // The values of TooFew.
+    pub observed: usize,
+    pub required: usize,
+    // The values of Rmse.
+    pub rmse_vol: f64,
+    pub max_rmse_vol: f64,
+    pub counts: Counts,
+}
+
+// What is told of a fit outside, in text and in rows: the number of its refusal, or 0, and zeros where it has no value.
 #[repr(C)]
 #[derive(Clone, Copy)]
 pub struct FitAnswer {
@@ -77,33 +101,26 @@ pub struct FitAnswer {
     pub capped: usize,
 }
 
-// Finite and above zero.
-pub fn is_positive(x: f64) -> bool
-    ensures { result ≡ positive x }
-{
-    bits::is_finite(x) & (0.0 < x)
-}
-
 // k finite, w finite and not negative, the weight finite and positive.
 pub fn passes(k: f64, w: f64, weight: f64) -> bool
     ensures { result ≡ passesOf k w weight }
 {
-    bits::is_finite(k) & bits::is_finite(w) & (0.0 <= w) & is_positive(weight)
+    bits::is_finite(k) & bits::is_finite(w) & (0.0 <= w) & bits::is_positive(weight)
 }
 
 impl SliceObservation {
-    pub fn new(k: f64, w: f64, weight: f64) -> Observed
-        ensures { result ≡ observed_of k w weight }
+    pub fn new(k: f64, w: f64, weight: f64) -> Result<SliceObservation, Refusal>
+        ensures { numbered result ≡ observed_of k w weight }
     {
-        let good = passes(k, w, weight);
-        if !good {
-            return Observed::Refused(10);
+        if passes(k, w, weight) {
+            return Ok(SliceObservation { k, w, weight });
         }
-        Observed::At(SliceObservation { k, w, weight })
+        Err(Refusal::BadObservation)
     }
 }
 
 impl FitConfig {
+    // Stays: docs/PROMISES.md names it; a derived default would be zeros.
     pub fn defaults() -> FitConfig
         ensures { result ≡ defaults_of }
     {
@@ -126,11 +143,11 @@ impl FitConfig {
     pub fn validate(self) -> bool
         ensures { result ≡ settings_hold self }
     {
-        let ends = is_positive(self.sigma_lo) & is_positive(self.sigma_hi);
-        let fits = is_positive(self.a_min) & is_positive(self.max_rmse_vol);
-        let steps = is_positive(self.pivot_tolerance)
-            & is_positive(self.feasibility_tolerance)
-            & is_positive(self.max_weight_ratio);
+        let ends = bits::is_positive(self.sigma_lo) & bits::is_positive(self.sigma_hi);
+        let fits = bits::is_positive(self.a_min) & bits::is_positive(self.max_rmse_vol);
+        let steps = bits::is_positive(self.pivot_tolerance)
+            & bits::is_positive(self.feasibility_tolerance)
+            & bits::is_positive(self.max_weight_ratio);
         (5 <= self.grid)
             & (5 <= self.min_observations)
             & ends
@@ -150,54 +167,72 @@ pub fn sizes_hold(n: usize, config: FitConfig) -> bool
         & (config.max_recentres <= 1000)
 }
 
-// ---- a refused fit
-
-// No pass was made.
-pub fn no_counts() -> Counts
-    ensures { result ≡ no_counts }
-{
-    Counts {
-        passes: 0,
-        recentres: 0,
-        shrinks: 0,
-        cells: 0,
-        faces: 0,
-        updates: 0,
+impl FitFailure {
+    // Zeros but for the reason and the counts.
+    pub fn after(why: Refusal, counts: Counts) -> FitFailure
+        ensures { failure_answer result ≡ refused_after (refusal_number why) counts }
+    {
+        FitFailure {
+            why,
+            observed: 0,
+            required: 0,
+            rmse_vol: 0.0,
+            max_rmse_vol: 0.0,
+            counts,
+        }
     }
 }
 
-// The answer of a refused fit: zeros but for what is handed in.
-pub fn refusal(
-    number: u32,
-    observed: usize,
-    required: usize,
-    rmse: f64,
-    max: f64,
-    counts: Counts,
-) -> FitAnswer
-    ensures { result ≡ refused_with number observed required rmse max counts }
+fn accepted(f: SliceFit) -> FitAnswer
+    ensures { result ≡ accepted_answer f }
 {
+    let active = f.active;
     FitAnswer {
-        number,
-        observed,
-        required,
-        rmse_vol: rmse,
-        max_rmse_vol: max,
-        slice: SviSlice {
-            tau: 0.0,
-            a: 0.0,
-            b: 0.0,
-            rho: 0.0,
-            m: 0.0,
-            sigma: 0.0,
-            k_range: KRange { lo: 0.0, hi: 0.0 },
+        number: 0,
+        observed: 0,
+        required: 0,
+        rmse_vol: f.rmse_vol,
+        max_rmse_vol: 0.0,
+        slice: f.slice,
+        objective: f.objective,
+        objective_params: f.objective_params,
+        lee_margin: f.lee_margin,
+        a_margin: f.a_margin,
+        active,
+        counts: f.counts,
+        capped: f.capped,
+    }
+}
+
+// A fit as it is told.
+// Stays flat: the rows of the C interface and the printed answer have its fields, and text's promises are of any number.
+pub fn told(fit: Result<SliceFit, FitFailure>) -> FitAnswer
+    ensures { result ≡ answer_in fit }
+{
+    match fit {
+        Ok(f) => accepted(f),
+        Err(e) => FitAnswer {
+            number: e.why.number(),
+            observed: e.observed,
+            required: e.required,
+            rmse_vol: e.rmse_vol,
+            max_rmse_vol: e.max_rmse_vol,
+            slice: SviSlice {
+                tau: 0.0,
+                a: 0.0,
+                b: 0.0,
+                rho: 0.0,
+                m: 0.0,
+                sigma: 0.0,
+                k_range: KRange { lo: 0.0, hi: 0.0 },
+            },
+            objective: 0.0,
+            objective_params: 0.0,
+            lee_margin: 0.0,
+            a_margin: 0.0,
+            active: [false; 7],
+            counts: e.counts,
+            capped: 0,
         },
-        objective: 0.0,
-        objective_params: 0.0,
-        lee_margin: 0.0,
-        a_margin: 0.0,
-        active: [false; 7],
-        counts,
-        capped: 0,
     }
 }

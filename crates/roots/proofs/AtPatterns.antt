@@ -2,8 +2,8 @@
 use mathlib.Core.Path.{◌≡◌, refl, sym, ap, ◌∙◌, subst}
 use mathlib.Core.Bool.{Bool, true, false, cond}
 use mathlib.Core.Logic.{◌⊎◌, inl, inr}
-use Prim.Native.Nat.{ℕ, zero, suc, ◌+◌, ◌*◌, ◌/◌, ◌%◌, ◌^◌, ◌≤◌, ◌<◌}
-use native.Mathlib.Nat.{mul-pos, div-add-mod', mod-eq_of_lt, mul_assoc, add_comm}
+use Prim.Native.Nat.{ℕ, zero, suc, ◌+◌, ◌*◌, ◌/◌, ◌%◌, ◌^◌, ◌≤◌, ◌<◌, max, min}
+use native.Mathlib.Nat.{mul-pos, div-add-mod', mod-eq_of_lt, mul_assoc, add_comm, le_of_lt, max-eq_left, max-eq_right, min-eq_left, min-eq_right}
 use native.Mathlib.Omega.{arith}
 use borrow.Author.Tests.{le-leb, lt-leb}
 use lib.Dec.{T, leb, eqb}
@@ -11,11 +11,11 @@ use lib.Pow.{pow_pos, pow-add}
 use lib.Ieee.{Float, nan, inf, fin, binary64, odd, of_fields, of_bits, to_bits, fits}
 use lib.Ieee.Exact.{HasValue, odd_sign}
 use Rattle.laws.proofs.Patterns.{of_fields_lem, amount, PartsOf, parted_at, amount_at, mant_pos}
+use Rattle.laws.proofs.Comparing.{lt_or_le}
 use Rattle.laws.specs.Floats.{one}
 use Rattle.laws.proofs.Values.{value, units_of_lem, bits_val}
 use Rattle.roots.specs.Root.{sq, mag, root_units, root_mag, root_of}
 use Rattle.roots.specs.Hypot.{hypot_of}
-use Rattle.roots.specs.Inner.{IsLeast, IsGreatest}
 
 -- ---- the root by the value
 
@@ -162,21 +162,12 @@ both (fin a u e) nan s t n m h k = absurd k
 both (fin a u e) (inf b) s t n m h k = absurd k
 
 -- the larger side and the smaller
-pub in_order : (a b g l : ℕ) → IsGreatest a b g → IsLeast a b l → a < 2047 * 2 ^ 52 → b < 2047 * 2 ^ 52 → (l ≤ g) × (g < 2047 * 2 ^ 52)
-in_order a b g l (inl v) (inl w) h k = (omega arith, omega arith)
-in_order a b g l (inl v) (inr w) h k = absurd (omega arith)
-in_order a b g l (inr v) (inl w) h k = absurd (omega arith)
-in_order a b g l (inr v) (inr w) h k = (omega arith, omega arith)
+pub sides : (a b g l : ℕ) → g ≡ max a b → l ≡ min a b → root_units (sq (amount g) + sq (amount l)) ≡ root_units (sq (amount a) + sq (amount b))
+sides a b g l G L = elim (lt_or_le a b) [
+  | inl h ↦ rw (G, L, max-eq_right (le_of_lt h), min-eq_left (le_of_lt h)) (ap root_units (add_comm (sq (amount b)) (sq (amount a))))
+  | inr h ↦ rw (G, L, max-eq_left h, min-eq_right h) refl
+]
 
-pub sides : (a b g l : ℕ) → IsGreatest a b g → IsLeast a b l → root_units (sq (amount g) + sq (amount l)) ≡ root_units (sq (amount a) + sq (amount b))
-sides a b g l (inl v) (inl w) = rw (v.1, w.1) (ap root_units (add_comm (sq (amount b)) (sq (amount a))))
-sides a b g l (inl v) (inr w) = absurd (omega arith)
-sides a b g l (inr v) (inl w) = absurd (omega arith)
-sides a b g l (inr v) (inr w) = rw (v.1, w.1)
-
--- 1 by its parts, and a finite number beside it
-pub one_parts : PartsOf 4607182418800017408 4503599627370496 1022
-one_parts = (refl, refl)
-
+-- 1 beside a finite number
 pub beside_one : (x : Float) → T (fits binary64 x) → to_bits binary64 x % 2 ^ 63 < 2047 * 2 ^ 52 → root_units (sq (amount (to_bits binary64 x % 2 ^ 63)) + sq (amount 4607182418800017408)) ≡ hypot_of x one
 beside_one x f h = sym (both x one _ _ _ _ (value x f h) (bits_val 4607182418800017408 (omega arith)))

@@ -1,13 +1,13 @@
 -- The root of m * 2 ^ (s + 52): half the exponent, and the significand once or twice. Assumes nothing.
 use mathlib.Core.Path.{◌≡◌, refl, sym, ap, ◌∙◌, subst}
 use Prim.Native.Nat.{ℕ, zero, suc, ◌+◌, ◌-◌, ◌*◌, ◌/◌, ◌%◌, ◌^◌, ◌≤◌, ◌<◌}
-use native.Mathlib.Nat.{mul-le-mul_left, mul-lt-mul_of_pos_right, mul-pos, add-zero, le_of_suc-le-suc}
+use native.Mathlib.Nat.{mul-le-mul_left, mul-lt-mul_of_pos_right, mul-pos, add-zero}
 use native.Mathlib.Omega.{arith}
 use lib.Pow.{pow-add, pow_pos}
+use lib.Dec.{ltb}
 use lib.Ieee.{binary64, of_bits}
 use Rattle.roots.specs.Root.{sq, root_units}
 use Rattle.roots.specs.Inner.{RootPair, Between}
-use Rattle.roots.proofs.Squares.{sq_lt_back}
 use Rattle.roots.proofs.Limbs.{between}
 use Rattle.roots.proofs.Rounding.{around}
 
@@ -34,18 +34,12 @@ one_or_two m s =
     (omega (arith, mul-le-mul_left m a), mul-le-mul_left m b)
 
 module _ (m s q r : ℕ) (P : RootPair (m * (s % 2 + 1) * 2 ^ 54 + 0) q r) (lo : 2 ^ 52 ≤ m) (hi : m < 2 ^ 53) where
-  pub half_between : Between (4 * (m * 2 ^ (s + 52))) (sq (2 ^ (s / 2))) q r
+  pub half_between : Between (4 * (m * 2 ^ (s + 52))) (sq (2 ^ (s / 2))) q (ltb 0 r)
   half_between =
       let p = sq (2 ^ (s / 2)) in
       let e : (sq q + r) * p ≡ (m * (s % 2 + 1) * 2 ^ 54 + 0) * p = ap (λ (x : ℕ). x * p) P.sum in
-      subst (λ (x : ℕ). Between (4 * (m * 2 ^ (s + 52))) p q x) (add-zero r)
+      subst (λ (x : ℕ). Between (4 * (m * 2 ^ (s + 52))) p q (ltb 0 x)) (add-zero r)
       (between (4 * (m * 2 ^ (s + 52))) p q r 0 (omega (arith, halved m s)) P.small (mul-pos (pow_pos (s / 2)) (pow_pos (s / 2))))
-
-  pub half_low : 2 ^ 53 ≤ q
-  half_low = le_of_suc-le-suc (sq_lt_back (2 ^ 53) (suc q) (omega (arith, P.sum, P.small, one_or_two m s)))
-
-  pub half_high : q < 2 ^ 55
-  half_high = sq_lt_back q (2 ^ 55) (omega (arith, P.sum, one_or_two m s))
 
 -- a float near the root, with the square of twice its digits near enough
 pub half_around : (m s f : ℕ) → 0 < f → f < 2 ^ 52 → s ≤ 4000

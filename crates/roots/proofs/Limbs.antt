@@ -1,23 +1,17 @@
 -- Numbers of two limbs, hi * 2 ^ 54 + lo: a square, a part cut off, and the whole root of a sum. Assumes nothing.
 use mathlib.Core.Path.{◌≡◌, sym, ap, ◌∙◌}
 use Prim.Native.Nat.{ℕ, zero, suc, ◌+◌, ◌-◌, ◌*◌, ◌/◌, ◌%◌, ◌^◌, ◌≤◌, ◌<◌}
-use native.Mathlib.Nat.{mul-le-mul_left, mul-le-mul_right, mod-eq_of_lt, mod-lt, div-mul-le_self, div-add-mod', div-lt_iff_lt-mul, lt_of_lt_of_le}
+use native.Mathlib.Nat.{mul-le-mul_left, mul-le-mul_right, mod-eq_of_lt, mod-lt, div-mul-le_self, div-add-mod', div-lt_iff_lt-mul}
 use native.Mathlib.Omega.{arith}
-use lib.Pow.{pow_pos, pow-add, pow_mono}
+use lib.Pow.{pow_pos, pow-add}
+use lib.Dec.{ltb}
+use Rattle.std.proofs.lemmas.Bool.{ltb-true, ltb-false}
 use Rattle.laws.proofs.Comparing.{product_lt}
 use Rattle.roots.specs.Root.{sq}
 use Rattle.roots.specs.Inner.{RootPair, Between}
 use Rattle.roots.proofs.Squares.{sq_lt_back}
 
 -- ---- the square
-
-pub parts_fit : (q : ℕ) → q < 2 ^ 55
-    → (q / 2 ^ 27 * (q / 2 ^ 27) < 2 ^ 56) × (q / 2 ^ 27 * (q % 2 ^ 27) < 2 ^ 55) × (q % 2 ^ 27 * (q % 2 ^ 27) < 2 ^ 54)
-parts_fit q h = (
-  product_lt _ _ (2 ^ 28) (2 ^ 28) (omega arith) (omega arith),
-  product_lt _ _ (2 ^ 28) (2 ^ 27) (omega arith) (omega arith),
-  product_lt _ _ (2 ^ 27) (2 ^ 27) (omega arith) (omega arith),
-)
 
 -- the high limb of a square
 pub high_lt : (q hi lo : ℕ) → q < 2 ^ 54 → hi * 2 ^ 54 + lo ≡ sq q → hi < 2 ^ 54
@@ -78,23 +72,21 @@ module _ (hi lo s : ℕ) (H : hi < 2 ^ 54) (L : lo < 2 ^ 54) (S : s ≤ 52) wher
 
 -- ---- the whole root of T, where the number is T * p + off
 
-pub between : (n p q r off : ℕ) → (sq q + r) * p + off ≡ n → r ≤ 2 * q → off < p → Between n p q (r + off)
+pub between : (n p q r off : ℕ) → (sq q + r) * p + off ≡ n → r ≤ 2 * q → off < p → Between n p q (ltb 0 (r + off))
 between n p q r off e h l = record {
   low = omega arith;
   high = omega (arith, mul-le-mul_right p h);
   exact = λ z.
+      let f : r + off ≤ 0 = ltb-false 0 (r + off) z in
       let a : r ≡ 0 = omega arith in
       let b : (sq q + 0) * p + off ≡ n = rw a at e in
       omega arith;
-  above = λ z. go r e h z;
+  above = λ z. go r e h (ltb-true 0 (r + off) z);
 }
   where
     go : (r : ℕ) → (sq q + r) * p + off ≡ n → r ≤ 2 * q → 0 < r + off → sq q * p < n
     go zero e h z = omega arith
     go (suc r) e h z = omega arith
-
-pub first_small : (w q r : ℕ) → w < 2 ^ 56 → RootPair (0 + w) q r → q < 2 ^ 28
-first_small w q r h P = sq_lt_back q (2 ^ 28) (omega (arith, P.sum))
 
 -- the sum of two squares, of which the second lost its last digits
 pub sum_is : (xh xl zh zl off p sa sb : ℕ) → xh * 2 ^ 54 + xl ≡ sa → (zh * 2 ^ 54 + zl) * p + off ≡ sb
@@ -109,13 +101,10 @@ module _ (hi lo off p n q r : ℕ) (N : (hi * 2 ^ 54 + lo) * p + off ≡ n) (P :
   pub last_small : hi < 2 ^ 55 → lo < 2 ^ 54 → q < 2 ^ 55
   last_small a b = sq_lt_back q (2 ^ 55) (omega (arith, P.sum))
 
-  pub last_between : off < p → Between n p q (r + off)
+  pub last_between : off < p → Between n p q (ltb 0 (r + off))
   last_between h =
       let e : (sq q + r) * p ≡ (hi * 2 ^ 54 + lo) * p = ap (λ (x : ℕ). x * p) P.sum in
       between n p q r off (omega arith) P.small h
-
-pub off_small : (off d : ℕ) → off < 2 ^ (d * 2) → d ≤ 26 → off < 2 ^ 52
-off_small off d h k = lt_of_lt_of_le h (pow_mono (let l : d * 2 ≤ 52 = omega arith in l))
 
 -- ---- a step from g by c, which is a little less than the rest over 2g
 
@@ -136,13 +125,3 @@ module _ (g r : ℕ) (few : step g r ≤ 64) where
     where
       go : (c : ℕ) → c * (2 * g + c) ≤ r → sq (g + c) + (r - c * (2 * g + c)) ≡ sq g + r
       go c h = omega arith
-
--- the sums of the division fit 64 binary digits
-pub limb_fits : (d : ℕ) → d ≤ 255 → d * 18014398509481984 < 2 ^ 64
-limb_fits d h = omega arith
-
-pub limbs_fit : (d l : ℕ) → d ≤ 255 → l < 2 ^ 54 → d * 18014398509481984 + l < 2 ^ 64
-limbs_fit d l h k = omega arith
-
-pub divisor_fits : (g : ℕ) → g < 2 ^ 55 → g / 2 ^ 39 + 2 < 2 ^ 64
-divisor_fits g h = omega arith

@@ -1,5 +1,6 @@
 -- The two sides of a length, by their bit patterns: significands m and exponents e. Assumes nothing.
 use mathlib.Core.Path.{◌≡◌, sym, ap, ◌∙◌, subst}
+use mathlib.Core.Bool.{Bool}
 use mathlib.Core.Logic.{◌⊎◌, inl, inr}
 use Prim.Native.Nat.{ℕ, suc, ◌+◌, ◌-◌, ◌*◌, ◌^◌, ◌≤◌, ◌<◌}
 use native.Mathlib.Nat.{mul-le-mul, mul-le-mul_right, mul-lt-mul_of_pos_right, mul-pos, lt_of_lt_of_le, lt_of_mul-lt-mul_right, mul_assoc}
@@ -15,8 +16,8 @@ use Rattle.roots.proofs.Rounding.{gap, to_lower}
 
 -- ---- the sum of the squares, from the larger exponent's scale
 
-scaled : {n p q more : ℕ} (c : ℕ) → 0 < c → Between n p q more → Between (n * c) (p * c) q more
-scaled {n} {p} {q} c h B = record {
+scaled : {n p q : ℕ} {more : Bool} (c : ℕ) → 0 < c → Between n p q more → Between (n * c) (p * c) q more
+scaled {n} {p} {q} {more} c h B = record {
   low = subst (λ (x : ℕ). x ≤ n * c) (mul_assoc (sq q) p c) (mul-le-mul_right c B.low);
   high = subst (λ (x : ℕ). n * c < x) (mul_assoc (sq (suc q)) p c) (mul-lt-mul_of_pos_right B.high h);
   exact = λ z. sym (mul_assoc (sq q) p c) ∙ ap (λ (x : ℕ). x * c) (B.exact z);
@@ -35,7 +36,7 @@ module _ (m e n d : ℕ) (o : d ≤ e) where
       let a : 4 * sq m * (2 ^ ((e - d) * 2) * sq (2 ^ d)) ≡ 4 * sq m * sq (2 ^ e) = ap (λ (x : ℕ). 4 * sq m * x) apart in
       omega arith
 
-  pub near_between : (q more : ℕ) → Between (sq (2 * m) * 2 ^ ((e - d) * 2) + sq (2 * n)) (2 ^ ((e - d) * 2)) q more
+  pub near_between : (q : ℕ) (more : Bool) → Between (sq (2 * m) * 2 ^ ((e - d) * 2) + sq (2 * n)) (2 ^ ((e - d) * 2)) q more
       → Between (4 * (sq (m * 2 ^ e) + sq (n * 2 ^ d))) (sq (2 ^ e)) q more
   near_between q more B =
       subst (λ (x : ℕ). Between x (sq (2 ^ e)) q more) four_times
@@ -53,7 +54,7 @@ module _ (m e n d : ℕ) (o : d ≤ e) where
       (omega (arith, apart), omega (arith, apart))
 
   -- the root is no less than the larger side
-  pub near_held : (q more : ℕ) → Between (sq (2 * m) * 2 ^ ((e - d) * 2) + sq (2 * n)) (2 ^ ((e - d) * 2)) q more → Held m e → (2 ^ 53 ≤ q) ⊎ (e ≡ 0)
+  pub near_held : (q : ℕ) (more : Bool) → Between (sq (2 * m) * 2 ^ ((e - d) * 2) + sq (2 * n)) (2 ^ ((e - d) * 2)) q more → Held m e → (2 ^ 53 ≤ q) ⊎ (e ≡ 0)
   near_held q more B (inr z) = inr z
   near_held q more B (inl l) =
       let a : sq (2 * m) * 2 ^ ((e - d) * 2) < sq (suc q) * 2 ^ ((e - d) * 2) = omega (arith, B.high) in
@@ -62,7 +63,7 @@ module _ (m e n d : ℕ) (o : d ≤ e) where
 
   -- where the smaller side is too small to count
   pub far_between : 27 ≤ e - d → 2 ^ 52 ≤ m → n < 2 ^ 53
-      → Between (4 * (sq (m * 2 ^ e) + sq (n * 2 ^ d))) (sq (2 ^ e)) (2 * m) (4 * (sq (m * 2 ^ e) + sq (n * 2 ^ d)) - sq (2 * m) * sq (2 ^ e))
+      → (more : Bool) × Between (4 * (sq (m * 2 ^ e) + sq (n * 2 ^ d))) (sq (2 ^ e)) (2 * m) more
   far_between f l s =
       let a : sq (2 * n) < 2 ^ 54 * 2 ^ 54 = product_lt (2 * n) (2 * n) (2 ^ 54) (2 ^ 54) (omega arith) (omega arith) in
       let b : 2 ^ 54 ≤ 2 ^ ((e - d) * 2) = pow_mono (let g : 54 ≤ (e - d) * 2 = omega arith in g) in
@@ -81,8 +82,9 @@ pub far : (a m e b n d : ℕ) → PartsOf a m e → PartsOf b n d → b ≤ a �
 far a m e b n d PA QB o h f =
     let P = parted_at a m e PA in
     let Q = parted_at b n d QB in
+    let B = far_between m e n d (expo_mono P Q o) f (full P.held) Q.small in
     ap (λ (x : ℕ). of_bits binary64 x) (sym P.sum)
-    ∙ to_lower _ e 1 e (2 * m) _ m (omega arith) (far_between m e n d (expo_mono P Q o) f (full P.held) Q.small) (omega arith) (omega arith) P.held P.small (expo_le P h) (omega arith)
+    ∙ to_lower _ e 1 e (2 * m) m B.0 (omega arith) B.1 (omega arith) (omega arith) P.held P.small (expo_le P h) (omega arith)
     ∙ ap root_units (sums a m e b n d PA QB)
   where
     full : Held m e → 2 ^ 52 ≤ m

@@ -8,43 +8,50 @@ mod whole; // whole.rt: whole roots
 mod wide; // wide.rt: numbers of two limbs
 
 ghost use Rattle.std.specs.Prelude.{◌≡◌, ◌+◌, ◌*◌, ◌^◌, ◌≤◌, ◌<◌};
-ghost use Rattle.std.specs.Float.{binary64, nan};
-ghost use Rattle.std.specs.Float.Ieee.{of_bits};
+ghost use Rattle.std.specs.Float.{nan};
 ghost use Rattle.laws.proofs.Patterns.{amount};
-ghost use Rattle.roots.specs.Root.{root_of, root_units, sq};
+ghost use Rattle.roots.specs.Root.{root_of, sq};
+ghost use Rattle.roots.specs.Inner.{IsFull, IsRootPattern};
 ghost use Rattle.roots.specs.Hypot.{hypot_of};
 
 use near::{near_digits, within};
-use pattern::{greatest, least, parts_of, place, shift_up};
+use pattern::{FIELD, INFINITY, SIGN, parts_of, place, short_by};
 use whole::{near_root, wide_root};
+use wide::Wide;
 
 // The bit pattern of the root of m * 2 ^ (s + 52), in units of the smallest value, rounded: from the whole root.
 fn from_whole(m: u64, s: u64) -> u64
-    requires { (2 ^ 52 ≤ m) × (m < 2 ^ 53) × (s ≤ 4000) }
-    ensures { (of_bits binary64 result ≡ root_units (m * 2 ^ (s + 52))) × (result ≤ 2047 * 2 ^ 52) }
+    requires { IsFull m × (s ≤ 4000) }
+    ensures { IsRootPattern (m * 2 ^ (s + 52)) result }
 {
-    let r = wide_root(m * (s % 2 + 1), 0);
-    place(r.root, r.rem, s / 2)
+    let r = wide_root(Wide {
+        hi: m * (s % 2 + 1),
+        lo: 0,
+    });
+    place(r.root, 0 < r.rem, s / 2)
 }
 
-// The same: a float near the root where it is the nearest. A power of two has neighbours at two distances, so it is worked out from the whole root.
+// The same: a float near the root where it is the nearest.
 fn scaled(m: u64, s: u64) -> u64
-    requires { (2 ^ 52 ≤ m) × (m < 2 ^ 53) × (s ≤ 4000) }
-    ensures { (of_bits binary64 result ≡ root_units (m * 2 ^ (s + 52))) × (result ≤ 2047 * 2 ^ 52) }
+    requires { IsFull m × (s ≤ 4000) }
+    ensures { IsRootPattern (m * 2 ^ (s + 52)) result }
 {
     let odd = s % 2;
-    let f = near_digits(m, odd);
-    if f == 0 {
-        return from_whole(m, s);
-    }
-    let q = 2 * f + 9007199254740992;
-    if within(q, 2 * q - 1, m * (odd + 1), 0) {
-        return (s / 2 + 1) * 4503599627370496 + f;
+    let wide = Wide {
+        hi: m * (odd + 1),
+        lo: 0,
+    };
+    if let Some(f) = near_digits(m, odd) {
+        let q = 2 * f + 2 * FIELD;
+        if within(q, 2 * q - 1, wide) {
+            return (s / 2 + 1) * FIELD + f;
+        }
     }
     from_whole(m, s)
 }
 
 // The square root, rounded to the nearest value, ties to even.
+// Stays: in place of f64::sqrt, since docs/PROMISES.md says that a root is worked out from bits.
 pub fn sqrt(x: f64) -> f64
     ensures { result ≡ root_of x }
 {
@@ -52,30 +59,27 @@ pub fn sqrt(x: f64) -> f64
         return x;
     }
     let b = f64::to_bits(x);
-    if b % 9223372036854775808 == 0 {
+    if b % SIGN == 0 {
         return x;
     }
-    if 9223372036854775808 <= b {
-        return 0.0 / 0.0;
+    if SIGN <= b {
+        return f64::NAN;
     }
-    if 9218868437227405312 <= b {
+    if INFINITY <= b {
         return x;
     }
     let p = parts_of(b);
-    let m = p.m;
-    let e = p.e;
-    if m < 4503599627370496 {
-        let n = shift_up(m);
-        let by = n.by;
-        return f64::from_bits(from_whole(n.m, 1022 - by));
+    if p.m < FIELD {
+        let by = short_by(p.m);
+        return f64::from_bits(from_whole(p.m << by, 1022 - by));
     }
-    f64::from_bits(scaled(m, e + 1022))
+    f64::from_bits(scaled(p.m, p.e + 1022))
 }
 
 // The pattern of the root of the sum of two squares, by the patterns of the numbers, the larger first.
 pub(crate) fn hypot_bits(a: u64, b: u64) -> u64
     requires { (b ≤ a) × (a < 2047 * 2 ^ 52) }
-    ensures { (result ≤ 2047 * 2 ^ 52) × (of_bits binary64 result ≡ root_units (sq (amount a) + sq (amount b))) }
+    ensures { IsRootPattern (sq (amount a) + sq (amount b)) result }
 {
     let x = parts_of(a);
     let y = parts_of(b);
@@ -94,10 +98,10 @@ fn beside_nan(y: f64) -> f64
     if y != y {
         return y;
     }
-    if 9218868437227405312 <= f64::to_bits(y) % 9223372036854775808 {
-        return 1.0 / 0.0;
+    if INFINITY <= f64::to_bits(y) % SIGN {
+        return f64::INFINITY;
     }
-    0.0 / 0.0
+    f64::NAN
 }
 
 // The root of the sum of the squares, rounded once.
@@ -110,13 +114,13 @@ pub fn hypot(x: f64, y: f64) -> f64
     if y != y {
         return beside_nan(x);
     }
-    let a = f64::to_bits(x) % 9223372036854775808;
-    let b = f64::to_bits(y) % 9223372036854775808;
-    if 9218868437227405312 <= a {
-        return 1.0 / 0.0;
+    let a = f64::to_bits(x) % SIGN;
+    let b = f64::to_bits(y) % SIGN;
+    if INFINITY <= a {
+        return f64::INFINITY;
     }
-    if 9218868437227405312 <= b {
-        return 1.0 / 0.0;
+    if INFINITY <= b {
+        return f64::INFINITY;
     }
-    f64::from_bits(hypot_bits(greatest(a, b), least(a, b)))
+    f64::from_bits(hypot_bits(a.max(b), a.min(b)))
 }

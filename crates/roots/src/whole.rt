@@ -1,9 +1,10 @@
 // Whole roots: of one limb digit by digit, and of two limbs from a guess by floats that is checked exactly.
 ghost use Rattle.std.specs.Prelude.{◌+◌, ◌*◌, ◌^◌, ◌≤◌, ◌<◌, suc};
 ghost use Rattle.roots.specs.Root.{sq};
-ghost use Rattle.roots.specs.Inner.{RootPair, Between};
+ghost use Rattle.roots.specs.Inner.{RootPair, Between, limbs};
 
-use crate::wide::{joined, square};
+use crate::pattern::{FIELD, SIGN};
+use crate::wide::{Wide, excess, joined, square};
 
 // A whole root and what is left: n = root * root + rem.
 #[derive(Clone, Copy)]
@@ -19,9 +20,7 @@ fn digits(s: Root, word: u64, pairs: u64) -> Root
 {
     let mut root = s.root;
     let mut rem = s.rem;
-    let mut left = pairs;
-    while 0 < left {
-        left -= 1;
+    for left in (0..pairs).rev() {
         let next = rem * 4 + (word >> (left * 2)) % 4;
         let trial = root * 4 + 1;
         if next < trial {
@@ -43,7 +42,7 @@ fn guess(hi: u64) -> u64
 {
     let x = (hi / 8) as f64;
     let half = 0.5 * x;
-    let r0 = f64::from_bits(6910469410427058089 - f64::to_bits(x) % 9223372036854775808 / 2);
+    let r0 = f64::from_bits(6910469410427058089 - f64::to_bits(x) % SIGN / 2);
     let r1 = 1.5 * r0 - half * r0 * (r0 * r0);
     let r2 = 1.5 * r1 - half * r1 * (r1 * r1);
     let r3 = 1.5 * r2 - half * r2 * (r2 * r2);
@@ -53,7 +52,7 @@ fn guess(hi: u64) -> u64
     if y != y {
         return 0;
     }
-    f64::to_bits(y) % 4503599627370496 * 8
+    f64::to_bits(y) % FIELD * 8
 }
 
 // From a number g and what is left of n = g * g + r, up to the whole root of n.
@@ -70,48 +69,33 @@ fn climb(g: u64, r: u64) -> Root
     Root { root, rem }
 }
 
-// The whole root of hi * 2 ^ 54 + lo, digit by digit.
-fn slow_wide_root(hi: u64, lo: u64) -> Root
-    requires { (hi < 2 ^ 56) × (lo < 2 ^ 54) }
-    ensures { RootPair (hi * 2 ^ 54 + lo) result.root result.rem }
+// The whole root, digit by digit.
+fn slow_wide_root(n: Wide) -> Root
+    ensures { RootPair (limbs n.hi n.lo) result.root result.rem }
 {
-    let high = digits(Root { root: 0, rem: 0 }, hi, 28);
-    digits(high, lo, 27)
+    let high = digits(Root { root: 0, rem: 0 }, n.hi, 28);
+    digits(high, n.lo, 27)
 }
 
-// The whole root of hi * 2 ^ 54 + lo: from a guess that is not too large, almost there at once by a short division, and upward; else digit by digit.
-pub(crate) fn wide_root(hi: u64, lo: u64) -> Root
-    requires { (hi < 2 ^ 56) × (lo < 2 ^ 54) }
-    ensures { RootPair (hi * 2 ^ 54 + lo) result.root result.rem }
+// The whole root: from a guess that is not too large, almost there at once by a short division, and upward; else digit by digit.
+pub(crate) fn wide_root(n: Wide) -> Root
+    ensures { RootPair (limbs n.hi n.lo) result.root result.rem }
 {
-    let g = guess(hi);
-    let s = square(g);
-    let high = s.hi;
-    let low = s.lo;
-    if hi < high {
-        return slow_wide_root(hi, lo);
+    let g = guess(n.hi);
+    if let Some(rem) = excess(n, square(g)) {
+        let c = (rem >> 40) / ((g >> 39) + 2);
+        if c <= 64 {
+            return climb(g + c, rem - c * (2 * g + c));
+        }
     }
-    let d = hi - high;
-    if 255 < d {
-        return slow_wide_root(hi, lo);
-    }
-    let over = d * 18014398509481984 + lo;
-    if over < low {
-        return slow_wide_root(hi, lo);
-    }
-    let rem = over - low;
-    let c = (rem >> 40) / ((g >> 39) + 2);
-    if 64 < c {
-        return slow_wide_root(hi, lo);
-    }
-    climb(g + c, rem - c * (2 * g + c))
+    slow_wide_root(n)
 }
 
-// A whole root, and a number that is 0 where it is exact.
+// A whole root, and whether the number is above its square.
 #[derive(Clone, Copy)]
 pub(crate) struct Near {
     pub(crate) root: u64,
-    pub(crate) more: u64,
+    pub(crate) more: bool,
 }
 
 // The whole root of (a * 2 ^ d) ^ 2 + b ^ 2, less its last d digits.
@@ -120,9 +104,9 @@ pub(crate) fn near_root(a: u64, b: u64, d: u64) -> Near
     ensures { (result.root < 2 ^ 55) × Between (sq a * 2 ^ (d * 2) + sq b) (2 ^ (d * 2)) result.root result.more }
 {
     let t = joined(a, b, d);
-    let r = wide_root(t.hi, t.lo);
+    let r = wide_root(t.kept);
     Near {
         root: r.root,
-        more: r.rem + t.off,
+        more: 0 < r.rem + t.off,
     }
 }

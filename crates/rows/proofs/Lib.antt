@@ -1,4 +1,4 @@
--- What the function proofs share; that rows read back, and policies by their numbers.
-pub mod Told
+-- Rows read back, and policies by their numbers.
 pub mod RowsReadBack
 pub mod PolicyNumbers
+pub mod Flags

@@ -5,7 +5,6 @@ use lib.Dec.{eqb}
 use Rattle.diagnostics.specs.declared.report.SurfaceDiagnostics.{SurfaceDiagnostics}
 use Rattle.diagnostics.specs.declared.tally.Check.{Check}
 use Rattle.diagnostics.specs.Diagnostics.{report_clean}
-use Rattle.rows.specs.declared.answers.DiagnosedAnswer.{DiagnosedAnswer}
 use Rattle.rows.specs.Answers.{check_counts, check_worst, diagnosed_counts, diagnosed_worst, check_at, report_at}
 use Rattle.rows.specs.Flag.{flag}
 use Rattle.slice.specs.declared.KRange.{KRange}
@@ -32,8 +31,8 @@ found_back false = refl
 pub check_back : (c : Check) → check_at 0 (check_counts c) (check_worst c) ≡ c
 check_back c = ap (λ (found : Bool). record { points = c.points; violations = c.violations; worst = record { found = found; at = c.worst.at } }) (found_back c.worst.found)
 
-pub report_back : (a : DiagnosedAnswer) → report_at (diagnosed_counts a) (diagnosed_worst a) ≡ a.report
-report_back a = λ i. record { butterfly = check_back a.report.butterfly i; calendar_slope = check_back a.report.calendar_slope i; calendar_gap = check_back a.report.calendar_gap i; evaluation_failures = a.report.evaluation_failures }
+pub report_back : (d : SurfaceDiagnostics) → report_at (diagnosed_counts d) (diagnosed_worst d) ≡ d
+report_back d = λ i. record { butterfly = check_back d.butterfly i; calendar_slope = check_back d.calendar_slope i; calendar_gap = check_back d.calendar_gap i; evaluation_failures = d.evaluation_failures }
 
-pub clean_back : (a : DiagnosedAnswer) → flag (report_clean (report_at (diagnosed_counts a) (diagnosed_worst a))) ≡ flag (report_clean a.report)
-clean_back a = ap (λ (d : SurfaceDiagnostics). flag (report_clean d)) (report_back a)
+pub clean_back : (d : SurfaceDiagnostics) → flag (report_clean (report_at (diagnosed_counts d) (diagnosed_worst d))) ≡ flag (report_clean d)
+clean_back d = ap (λ (e : SurfaceDiagnostics). flag (report_clean e)) (report_back d)

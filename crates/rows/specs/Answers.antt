@@ -1,32 +1,24 @@
--- The answers about points and surfaces as records, and as the rows of numbers that leave the library: the number of a refusal, or 0, and the values of each case. A refusal carries zeros. Definitions only.
-use Rattle.std.specs.Prelude.{true, false, not, cond, List, [], ◌∷◌, ◌++◌, ℕ, ◌+◌, eqb, Float}
+-- The answers about points and surfaces as they are told, the number of a refusal, or 0, and the value of each case, and as the rows of numbers that leave the library. A refusal carries zeros. Definitions only.
+use Rattle.std.specs.Prelude.{Bool, true, false, not, cond, List, [], ◌∷◌, ◌++◌, ℕ, ◌+◌, eqb, Float, Result}
 use Rattle.laws.specs.Floats.{+0, at}
-use Rattle.point.specs.declared.Total.{Total}
-use Rattle.point.specs.declared.Total.TheVariants as total
+use Rattle.point.specs.declared.TotalVariance.{TotalVariance}
 use Rattle.surface.specs.declared.types.Run.{Run}
 use Rattle.surface.specs.declared.types.ShortExpiryPolicy.{ShortExpiryPolicy}
 use Rattle.surface.specs.declared.types.ShortExpiryPolicy.TheVariants.{Reject, ConstantVol}
 use Rattle.surface.specs.declared.types.Bracket.{Bracket}
-use Rattle.surface.specs.declared.types.Bracket.TheVariants as bracket
+use Rattle.surface.specs.declared.types.Bracket.TheVariants.{Short, Segment}
 use Rattle.surface.specs.declared.types.Region.{Region}
-use Rattle.surface.specs.declared.types.Region.TheVariants as region
-use Rattle.surface.specs.declared.types.Covered.{Covered}
-use Rattle.surface.specs.declared.types.Covered.TheVariants as covered
+use Rattle.surface.specs.declared.types.Region.TheVariants.{Calibrated, Extrapolated}
 use Rattle.surface.specs.Surface.{bracket_run, region_run, total_run, covers_run}
 use Rattle.diagnostics.specs.declared.report.DiagnosticsConfig.{DiagnosticsConfig}
 use Rattle.diagnostics.specs.declared.report.SurfaceDiagnostics.{SurfaceDiagnostics}
-use Rattle.diagnostics.specs.declared.report.Diagnosed.{Diagnosed}
-use Rattle.diagnostics.specs.declared.report.Diagnosed.TheVariants as diagnosed
 use Rattle.diagnostics.specs.declared.tally.Check.{Check}
 use Rattle.diagnostics.specs.Tally.{point_at, no_check}
 use Rattle.diagnostics.specs.Diagnostics.{diagnose_of}
+use Rattle.rows.specs.declared.Answer.{Answer}
 use Rattle.rows.specs.Flag.{flag}
+use Rattle.rows.specs.Told.{told_as}
 use Rattle.rows.specs.Rows.{count_at}
-use Rattle.rows.specs.declared.answers.TotalAnswer.{TotalAnswer}
-use Rattle.rows.specs.declared.answers.BracketAnswer.{BracketAnswer}
-use Rattle.rows.specs.declared.answers.RegionAnswer.{RegionAnswer}
-use Rattle.rows.specs.declared.answers.CoversAnswer.{CoversAnswer}
-use Rattle.rows.specs.declared.answers.DiagnosedAnswer.{DiagnosedAnswer}
 
 -- ---- a policy as a number
 
@@ -39,55 +31,50 @@ abbrev pub policy_number : ShortExpiryPolicy → ℕ
 policy_number Reject = 0
 policy_number ConstantVol = 1
 
--- ---- one point
+-- ---- what is told
 
-abbrev pub total_answer : Total → TotalAnswer
-total_answer (total.At v) = record { number = 0; total = v }
-total_answer (total.Refused n) = record { number = n; total = record { w = +0; w_k = +0; w_kk = +0; w_tau = +0 } }
+-- the total variance, or the zeros of a refusal
+abbrev pub total_answer : Result TotalVariance ℕ → Answer TotalVariance
+total_answer = told_as record { w = +0; w_k = +0; w_kk = +0; w_tau = +0 }
 
--- ---- a surface
+-- the bracket; of a refusal positions 0 and 0, of weight 0
+abbrev pub bracket_answer : Result Bracket ℕ → Answer Bracket
+bracket_answer = told_as (Segment 0 0 +0)
 
-abbrev pub bracket_answer : Bracket → BracketAnswer
-bracket_answer bracket.Short = record { number = 0; below = true; lo = 0; hi = 0; x = +0 }
-bracket_answer (bracket.Segment lo hi x) = record { number = 0; below = false; lo = lo; hi = hi; x = x }
-bracket_answer (bracket.Refused n) = record { number = n; below = false; lo = 0; hi = 0; x = +0 }
+-- the region; of a refusal none is calibrated
+abbrev pub region_answer : Result Region ℕ → Answer Region
+region_answer = told_as Extrapolated
 
-abbrev pub region_answer : Region → RegionAnswer
-region_answer region.Calibrated = record { number = 0; calibrated = true }
-region_answer region.Extrapolated = record { number = 0; calibrated = false }
-region_answer (region.Refused n) = record { number = n; calibrated = false }
-
-abbrev pub covers_answer : Covered → CoversAnswer
-covers_answer covered.All = record { number = 0; all = true }
-covers_answer covered.NotAll = record { number = 0; all = false }
-covers_answer (covered.Refused n) = record { number = n; all = false }
+-- yes or no; of a refusal no
+abbrev pub covers_answer : Result Bool ℕ → Answer Bool
+covers_answer = told_as false
 
 abbrev pub no_diagnostics : SurfaceDiagnostics
 no_diagnostics = record { butterfly = no_check; calendar_slope = no_check; calendar_gap = no_check; evaluation_failures = 0 }
 
-abbrev pub diagnosed_answer : Diagnosed → DiagnosedAnswer
-diagnosed_answer (diagnosed.Done d) = record { number = 0; report = d }
-diagnosed_answer (diagnosed.Refused n) = record { number = n; report = no_diagnostics }
+-- the report, or an empty one
+abbrev pub diagnosed_answer : Result SurfaceDiagnostics ℕ → Answer SurfaceDiagnostics
+diagnosed_answer = told_as no_diagnostics
 
 -- ---- of a run, with the policy as a number
 
-unfoldable pub bracket_for : Run → ℕ → Float → Float → BracketAnswer
+unfoldable pub bracket_for : Run → ℕ → Float → Float → Answer Bracket
 bracket_for run policy k tau = bracket_answer (bracket_run run (policy_of policy) k tau)
 
-unfoldable pub region_for : Run → ℕ → Float → Float → RegionAnswer
+unfoldable pub region_for : Run → ℕ → Float → Float → Answer Region
 region_for run policy k tau = region_answer (region_run run (policy_of policy) k tau)
 
-unfoldable pub total_for : Run → ℕ → Float → Float → TotalAnswer
+unfoldable pub total_for : Run → ℕ → Float → Float → Answer TotalVariance
 total_for run policy k tau = total_answer (total_run run (policy_of policy) k tau)
 
-unfoldable pub covers_for : Run → List Float → List Float → CoversAnswer
+unfoldable pub covers_for : Run → List Float → List Float → Answer Bool
 covers_for run ks taus = covers_answer (covers_run run ks taus)
 
 -- the settings of a grid: its two tolerances
 abbrev pub grid_config : Float → Float → DiagnosticsConfig
 grid_config butterfly calendar = record { butterfly_tolerance = butterfly; calendar_tolerance = calendar }
 
-unfoldable pub diagnosed_for : Run → ℕ → List Float → List Float → Float → Float → List Float → DiagnosedAnswer
+unfoldable pub diagnosed_for : Run → ℕ → List Float → List Float → Float → Float → List Float → Answer SurfaceDiagnostics
 diagnosed_for run policy ks taus butterfly calendar room = diagnosed_answer (diagnose_of run (policy_of policy) ks taus (grid_config butterfly calendar) room).answer
 
 -- what the room holds afterwards
@@ -97,12 +84,22 @@ room_for run policy ks taus butterfly calendar room = (diagnose_of run (policy_o
 -- ---- as rows of numbers
 
 -- w, w_k, w_kk, w_tau
-abbrev pub total_row : TotalAnswer → List Float
-total_row a = a.total.w ∷ a.total.w_k ∷ a.total.w_kk ∷ a.total.w_tau ∷ []
+abbrev pub total_row : TotalVariance → List Float
+total_row v = v.w ∷ v.w_k ∷ v.w_kk ∷ v.w_tau ∷ []
 
 -- below as 1 or 0, lo, hi
-abbrev pub places_row : BracketAnswer → List ℕ
-places_row a = flag a.below ∷ a.lo ∷ a.hi ∷ []
+abbrev pub places_row : Bracket → List ℕ
+places_row Short = 1 ∷ 0 ∷ 0 ∷ []
+places_row (Segment lo hi x) = 0 ∷ lo ∷ hi ∷ []
+
+-- the weight of hi
+abbrev pub weight_in : Bracket → Float
+weight_in Short = +0
+weight_in (Segment lo hi x) = x
+
+abbrev pub is_calibrated : Region → Bool
+is_calibrated Calibrated = true
+is_calibrated Extrapolated = false
 
 -- points, violations, found as 1 or 0
 abbrev pub check_counts : Check → List ℕ
@@ -113,12 +110,12 @@ abbrev pub check_worst : Check → List Float
 check_worst c = c.worst.at.k ∷ c.worst.at.tau ∷ c.worst.at.value ∷ []
 
 -- of the butterflies, of the slopes, of the gaps; then the failures
-abbrev pub diagnosed_counts : DiagnosedAnswer → List ℕ
-diagnosed_counts a = check_counts a.report.butterfly ++ check_counts a.report.calendar_slope ++ check_counts a.report.calendar_gap ++ a.report.evaluation_failures ∷ []
+abbrev pub diagnosed_counts : SurfaceDiagnostics → List ℕ
+diagnosed_counts d = check_counts d.butterfly ++ check_counts d.calendar_slope ++ check_counts d.calendar_gap ++ d.evaluation_failures ∷ []
 
 -- of the butterflies, of the slopes, of the gaps
-abbrev pub diagnosed_worst : DiagnosedAnswer → List Float
-diagnosed_worst a = check_worst a.report.butterfly ++ check_worst a.report.calendar_slope ++ check_worst a.report.calendar_gap
+abbrev pub diagnosed_worst : SurfaceDiagnostics → List Float
+diagnosed_worst d = check_worst d.butterfly ++ check_worst d.calendar_slope ++ check_worst d.calendar_gap
 
 -- ---- out of such rows
 

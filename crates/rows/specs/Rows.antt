@@ -3,11 +3,11 @@ use Rattle.std.specs.Prelude.{List, [], ◌∷◌, ◌++◌, ℕ, get_or, Float}
 use Rattle.laws.specs.Floats.{at}
 use Rattle.slice.specs.declared.KRange.{KRange}
 use Rattle.slice.specs.declared.SviSlice.{SviSlice}
+use Rattle.slice.specs.declared.Values.{Values}
 use Rattle.cell.specs.declared.Limits.{Limits}
 use Rattle.cell.specs.declared.Cell.{Cell}
 use Rattle.records.specs.declared.FitConfig.{FitConfig}
 use Rattle.records.specs.declared.FitAnswer.{FitAnswer}
-use Rattle.rows.specs.declared.slices.ValuesAnswer.{ValuesAnswer}
 
 -- ---- read
 
@@ -65,7 +65,7 @@ abbrev pub slice_row : SviSlice → List Float
 slice_row s = s.tau ∷ s.a ∷ s.b ∷ s.rho ∷ s.m ∷ s.sigma ∷ range_row s.k_range
 
 -- w, w_k, w_kk
-abbrev pub values_row : ValuesAnswer → List Float
+abbrev pub values_row : Values → List Float
 values_row v = v.w ∷ v.w_k ∷ v.w_kk ∷ []
 
 -- grid, refinements, max_recentres, min_observations

@@ -1,35 +1,25 @@
--- The answers about one slice as records: the number of a refusal, or 0, and the values of each case. A refusal carries zeros. Definitions only.
+-- The answers about one slice as they are told: the number of a refusal, or 0, and the values. A refusal carries zeros. Definitions only.
+use Rattle.std.specs.Prelude.{ℕ, Float, Result}
 use Rattle.laws.specs.Floats.{+0}
-use Rattle.slice.specs.declared.Ranged.{Ranged}
-use Rattle.slice.specs.declared.Ranged.TheVariants as ranged
-use Rattle.slice.specs.declared.Made.{Made}
-use Rattle.slice.specs.declared.Made.TheVariants as made
-use Rattle.slice.specs.declared.Level.{Level}
-use Rattle.slice.specs.declared.Level.TheVariants as level
-use Rattle.slice.specs.declared.Evaluated.{Evaluated}
-use Rattle.slice.specs.declared.Evaluated.TheVariants as evaluated
+use Rattle.slice.specs.declared.KRange.{KRange}
+use Rattle.slice.specs.declared.SviSlice.{SviSlice}
+use Rattle.slice.specs.declared.Values.{Values}
 use Rattle.slice.specs.Slice.{no_slice}
-use Rattle.rows.specs.declared.slices.RangeAnswer.{RangeAnswer}
-use Rattle.rows.specs.declared.slices.SliceAnswer.{SliceAnswer}
-use Rattle.rows.specs.declared.slices.LevelAnswer.{LevelAnswer}
-use Rattle.rows.specs.declared.slices.ValuesAnswer.{ValuesAnswer}
+use Rattle.rows.specs.declared.Answer.{Answer}
+use Rattle.rows.specs.Told.{told_as}
 
 -- a range, or the zeros of a refusal
-abbrev pub range_answer : Ranged → RangeAnswer
-range_answer (ranged.Range r) = record { number = 0; range = r }
-range_answer (ranged.Refused n) = record { number = n; range = record { lo = +0; hi = +0 } }
+abbrev pub range_answer : Result KRange ℕ → Answer KRange
+range_answer = told_as record { lo = +0; hi = +0 }
 
 -- a slice, or the zeros of a refusal
-abbrev pub slice_answer : Made → SliceAnswer
-slice_answer (made.Slice s) = record { number = 0; slice = s }
-slice_answer (made.Refused n) = record { number = n; slice = no_slice }
+abbrev pub slice_answer : Result SviSlice ℕ → Answer SviSlice
+slice_answer = told_as no_slice
 
 -- one value, or the zero of a refusal
-abbrev pub level_answer : Level → LevelAnswer
-level_answer (level.Value v) = record { number = 0; value = v }
-level_answer (level.Refused n) = record { number = n; value = +0 }
+abbrev pub level_answer : Result Float ℕ → Answer Float
+level_answer = told_as +0
 
 -- w, w_k and w_kk, or the zeros of a refusal
-abbrev pub values_answer : Evaluated → ValuesAnswer
-values_answer (evaluated.At v) = record { number = 0; w = v.w; w_k = v.w_k; w_kk = v.w_kk }
-values_answer (evaluated.Refused n) = record { number = n; w = +0; w_k = +0; w_kk = +0 }
+abbrev pub values_answer : Result Values ℕ → Answer Values
+values_answer = told_as record { w = +0; w_k = +0; w_kk = +0 }

@@ -1,48 +1,19 @@
-// The answers about points and surfaces as records, and as the rows of numbers that leave the library: the number of a refusal, or 0, and the values. A refusal carries zeros.
+// The answers about points and surfaces as the rows of numbers that leave the library: the number of a refusal, or 0, and the values. A refusal carries zeros.
 ghost use Rattle.std.specs.Prelude.{◌≡◌, [], ◌∷◌};
-ghost use Rattle.rows.specs.Answers.{policy_of, policy_number, total_answer, bracket_answer, region_answer, covers_answer, no_diagnostics, diagnosed_answer, bracket_for, region_for, total_for, covers_for, diagnosed_for, room_for, total_row, places_row, diagnosed_counts, diagnosed_worst, check_of, check_at, report_at};
+ghost use Rattle.refusals.specs.Numbers.{numbered};
+ghost use Rattle.rows.specs.Answers.{policy_of, policy_number, total_answer, no_diagnostics, bracket_for, region_for, total_for, covers_for, diagnosed_for, room_for, total_row, places_row, weight_in, is_calibrated, diagnosed_counts, diagnosed_worst, check_of, check_at, report_at};
 ghost use Rattle.rows.specs.Flag.{flag};
 
-use diagnostics::report::{Diagnosed, DiagnosticsConfig, SurfaceDiagnostics};
+use crate::told;
+use diagnostics::report::{DiagnosticsConfig, SurfaceDiagnostics};
 use diagnostics::tally::{Check, DiagnosticPoint, Worst};
-use point::{Total, TotalVariance};
-use surface::types::{Bracket, Covered, Region, Run, ShortExpiryPolicy};
-
-#[derive(Clone, Copy)]
-pub struct TotalAnswer {
-    pub number: u32,
-    pub total: TotalVariance,
-}
-
-// Two positions and the weight of hi; or `below`, the first slice alone.
-#[derive(Clone, Copy)]
-pub struct BracketAnswer {
-    pub number: u32,
-    pub below: bool,
-    pub lo: usize,
-    pub hi: usize,
-    pub x: f64,
-}
-
-#[derive(Clone, Copy)]
-pub struct RegionAnswer {
-    pub number: u32,
-    pub calibrated: bool,
-}
-
-#[derive(Clone, Copy)]
-pub struct CoversAnswer {
-    pub number: u32,
-    pub all: bool,
-}
-
-#[derive(Clone, Copy)]
-pub struct DiagnosedAnswer {
-    pub number: u32,
-    pub report: SurfaceDiagnostics,
-}
+use point::TotalVariance;
+use refusals::Refusal;
+use surface::types::{Bracket, Region, Run, ShortExpiryPolicy};
 
 // ---- a policy as a number
+
+// Both stay: the numbers are C's (PORT_REJECT, PORT_CONSTANT_VOL), and a From of them would have to stand in crate surface, which knows of no C.
 
 // A refusal is for callers who name it: 0 is Reject, every other number is ConstantVol.
 fn policy_of(policy: u32) -> ShortExpiryPolicy
@@ -63,146 +34,45 @@ pub fn policy_number(policy: ShortExpiryPolicy) -> u32
     }
 }
 
-// ---- one record for each enum
+// ---- a record as its rows, and back
 
-fn total_answer(t: Total) -> TotalAnswer
-    ensures { result ≡ total_answer t }
+pub fn write_total(t: Result<TotalVariance, Refusal>, total: &mut [f64; 4]) -> u32
+    ensures { (result ≡ (total_answer (numbered t)).number) × (total.new ≡ total_row (total_answer (numbered t)).value) }
 {
-    match t {
-        Total::At(total) => TotalAnswer { number: 0, total },
-        Total::Refused(n) => TotalAnswer {
-            number: n,
-            total: TotalVariance {
-                w: 0.0,
-                w_k: 0.0,
-                w_kk: 0.0,
-                w_tau: 0.0,
-            },
-        },
-    }
-}
-
-fn bracket_answer(b: Bracket) -> BracketAnswer
-    ensures { result ≡ bracket_answer b }
-{
-    match b {
-        Bracket::Short => BracketAnswer {
-            number: 0,
-            below: true,
-            lo: 0,
-            hi: 0,
-            x: 0.0,
-        },
-        Bracket::Segment { lo, hi, x } => BracketAnswer {
-            number: 0,
-            below: false,
-            lo,
-            hi,
-            x,
-        },
-        Bracket::Refused(n) => BracketAnswer {
-            number: n,
-            below: false,
-            lo: 0,
-            hi: 0,
-            x: 0.0,
-        },
-    }
-}
-
-fn region_answer(r: Region) -> RegionAnswer
-    ensures { result ≡ region_answer r }
-{
-    match r {
-        Region::Calibrated => RegionAnswer {
-            number: 0,
-            calibrated: true,
-        },
-        Region::Extrapolated => RegionAnswer {
-            number: 0,
-            calibrated: false,
-        },
-        Region::Refused(n) => RegionAnswer {
-            number: n,
-            calibrated: false,
-        },
-    }
-}
-
-fn covers_answer(c: Covered) -> CoversAnswer
-    ensures { result ≡ covers_answer c }
-{
-    match c {
-        Covered::All => CoversAnswer {
-            number: 0,
-            all: true,
-        },
-        Covered::NotAll => CoversAnswer {
-            number: 0,
-            all: false,
-        },
-        Covered::Refused(n) => CoversAnswer {
-            number: n,
-            all: false,
-        },
-    }
+    let a = told(t, TotalVariance::default());
+    let v = a.value;
+    *total = [v.w, v.w_k, v.w_kk, v.w_tau];
+    a.number
 }
 
 fn no_diagnostics() -> SurfaceDiagnostics
     ensures { result ≡ no_diagnostics }
 {
-    let none = Check::default();
     SurfaceDiagnostics {
-        butterfly: none,
-        calendar_slope: none,
-        calendar_gap: none,
+        butterfly: Check::default(),
+        calendar_slope: Check::default(),
+        calendar_gap: Check::default(),
         evaluation_failures: 0,
     }
 }
 
-fn diagnosed_answer(d: Diagnosed) -> DiagnosedAnswer
-    ensures { result ≡ diagnosed_answer d }
+fn write_report(d: SurfaceDiagnostics, counts: &mut [usize; 10], worst: &mut [f64; 9])
+    ensures { (counts.new ≡ diagnosed_counts d) × (worst.new ≡ diagnosed_worst d) }
 {
-    match d {
-        Diagnosed::Done(report) => DiagnosedAnswer { number: 0, report },
-        Diagnosed::Refused(n) => DiagnosedAnswer {
-            number: n,
-            report: no_diagnostics(),
-        },
-    }
-}
-
-// ---- a record as its rows, and back
-
-pub fn write_total(t: Total, total: &mut [f64; 4]) -> u32
-    ensures { (result ≡ (total_answer t).number) × (total.new ≡ total_row (total_answer t)) }
-{
-    let a = total_answer(t);
-    let v = a.total;
-    *total = [v.w, v.w_k, v.w_kk, v.w_tau];
-    a.number
-}
-
-fn write_diagnosed(a: DiagnosedAnswer, counts: &mut [usize; 10], worst: &mut [f64; 9]) -> u32
-    ensures { (result ≡ a.number) × (counts.new ≡ diagnosed_counts a) × (worst.new ≡ diagnosed_worst a) }
-{
-    let b = a.report.butterfly;
-    let s = a.report.calendar_slope;
-    let g = a.report.calendar_gap;
-    let b_found = bits::pick_count(b.worst.found, 1, 0);
-    let s_found = bits::pick_count(s.worst.found, 1, 0);
-    let g_found = bits::pick_count(g.worst.found, 1, 0);
+    let b = d.butterfly;
+    let s = d.calendar_slope;
+    let g = d.calendar_gap;
     *counts = [
         b.points,
         b.violations,
-        b_found,
+        usize::from(b.worst.found),
         s.points,
         s.violations,
-        s_found,
+        usize::from(s.worst.found),
         g.points,
         g.violations,
-        g_found,
-        a.report.evaluation_failures,
+        usize::from(g.worst.found),
+        d.evaluation_failures,
     ];
     *worst = [
         b.worst.at.k,
@@ -215,7 +85,6 @@ fn write_diagnosed(a: DiagnosedAnswer, counts: &mut [usize; 10], worst: &mut [f6
         g.worst.at.tau,
         g.worst.at.value,
     ];
-    a.number
 }
 
 fn check_of(points: usize, violations: usize, found: usize, k: f64, tau: f64, value: f64) -> Check
@@ -266,26 +135,43 @@ pub fn bracket_of(
     places: &mut [usize; 3],
     x: &mut [f64; 1],
 ) -> u32
-    ensures { (result ≡ (bracket_for run policy k tau).number) × (places.new ≡ places_row (bracket_for run policy k tau)) × (x.new ≡ (bracket_for run policy k tau).x ∷ []) }
+    ensures { (result ≡ (bracket_for run policy k tau).number) × (places.new ≡ places_row (bracket_for run policy k tau).value) × (x.new ≡ weight_in (bracket_for run policy k tau).value ∷ []) }
 {
-    let a = bracket_answer(surface::answers::bracket_run(run, policy_of(policy), k, tau));
-    let below = bits::pick_count(a.below, 1, 0);
-    *places = [below, a.lo, a.hi];
-    *x = [a.x];
+    let none = Bracket::Segment {
+        lo: 0,
+        hi: 0,
+        x: 0.0,
+    };
+    let bracket = surface::answers::bracket_run(run, policy_of(policy), k, tau);
+    let a = told(bracket, none);
+    match a.value {
+        Bracket::Short => {
+            *places = [1, 0, 0];
+            *x = [0.0];
+        }
+        Bracket::Segment { lo, hi, x: weight } => {
+            *places = [0, lo, hi];
+            *x = [weight];
+        }
+    }
     a.number
 }
 
 pub fn region_of(run: Run, policy: u32, k: f64, tau: f64, calibrated: &mut [usize; 1]) -> u32
-    ensures { (result ≡ (region_for run policy k tau).number) × (calibrated.new ≡ flag (region_for run policy k tau).calibrated ∷ []) }
+    ensures { (result ≡ (region_for run policy k tau).number) × (calibrated.new ≡ flag (is_calibrated (region_for run policy k tau).value) ∷ []) }
 {
-    let a = region_answer(surface::answers::region_run(run, policy_of(policy), k, tau));
-    let yes = bits::pick_count(a.calibrated, 1, 0);
+    let region = surface::answers::region_run(run, policy_of(policy), k, tau);
+    let a = told(region, Region::Extrapolated);
+    let yes = match a.value {
+        Region::Calibrated => 1,
+        Region::Extrapolated => 0,
+    };
     *calibrated = [yes];
     a.number
 }
 
 pub fn total_of(run: Run, policy: u32, k: f64, tau: f64, total: &mut [f64; 4]) -> u32
-    ensures { (result ≡ (total_for run policy k tau).number) × (total.new ≡ total_row (total_for run policy k tau)) }
+    ensures { (result ≡ (total_for run policy k tau).number) × (total.new ≡ total_row (total_for run policy k tau).value) }
 {
     write_total(
         surface::answers::total_variance_run(run, policy_of(policy), k, tau),
@@ -294,11 +180,10 @@ pub fn total_of(run: Run, policy: u32, k: f64, tau: f64, total: &mut [f64; 4]) -
 }
 
 pub fn covers_of(run: Run, ks: &[f64], taus: &[f64], all: &mut [usize; 1]) -> u32
-    ensures { (result ≡ (covers_for run ks.now taus.now).number) × (all.new ≡ flag (covers_for run ks.now taus.now).all ∷ []) }
+    ensures { (result ≡ (covers_for run ks.now taus.now).number) × (all.new ≡ flag (covers_for run ks.now taus.now).value ∷ []) }
 {
-    let a = covers_answer(surface::answers::covers_run(run, ks, taus));
-    let yes = bits::pick_count(a.all, 1, 0);
-    *all = [yes];
+    let a = told(surface::answers::covers_run(run, ks, taus), false);
+    *all = [usize::from(a.value)];
     a.number
 }
 
@@ -313,19 +198,14 @@ pub fn diagnose_of(
     counts: &mut [usize; 10],
     worst: &mut [f64; 9],
 ) -> u32
-    ensures { (result ≡ (diagnosed_for run policy ks.now taus.now butterfly_tolerance calendar_tolerance room.old).number) × (room.new ≡ room_for run policy ks.now taus.now butterfly_tolerance calendar_tolerance room.old) × (counts.new ≡ diagnosed_counts (diagnosed_for run policy ks.now taus.now butterfly_tolerance calendar_tolerance room.old)) × (worst.new ≡ diagnosed_worst (diagnosed_for run policy ks.now taus.now butterfly_tolerance calendar_tolerance room.old)) }
+    ensures { (result ≡ (diagnosed_for run policy ks.now taus.now butterfly_tolerance calendar_tolerance room.old).number) × (room.new ≡ room_for run policy ks.now taus.now butterfly_tolerance calendar_tolerance room.old) × (counts.new ≡ diagnosed_counts (diagnosed_for run policy ks.now taus.now butterfly_tolerance calendar_tolerance room.old).value) × (worst.new ≡ diagnosed_worst (diagnosed_for run policy ks.now taus.now butterfly_tolerance calendar_tolerance room.old).value) }
 {
     let config = DiagnosticsConfig {
         butterfly_tolerance,
         calendar_tolerance,
     };
-    let a = diagnosed_answer(diagnostics::report::diagnose_run(
-        run,
-        policy_of(policy),
-        ks,
-        taus,
-        config,
-        room,
-    ));
-    write_diagnosed(a, counts, worst)
+    let report = diagnostics::report::diagnose_run(run, policy_of(policy), ks, taus, config, room);
+    let a = told(report, no_diagnostics());
+    write_report(a.value, counts, worst);
+    a.number
 }

@@ -1,6 +1,39 @@
-// What crosses to other languages as rows of numbers: records read from rows, answers as records, and these as rows. No enum leaves the library.
+// What crosses to other languages as rows of numbers: records read from rows, and answers as the number of a refusal, or 0, and a row. No enum leaves the library.
 #![tactic(auto)]
 
 pub mod slices; // slices.rt: one slice
 pub mod answers; // answers.rt: points, surfaces and their diagnostics
 pub mod fits; // fits.rt: the settings and the answer of a fit, the limits of a cell
+
+ghost use Rattle.std.specs.Prelude.{◌≡◌};
+ghost use Rattle.refusals.specs.Numbers.{numbered, number_in};
+ghost use Rattle.rows.specs.Told.{told_as};
+
+use refusals::Refusal;
+
+// The number of a refusal, or 0; and a value, which carries zeros where it is a refusal's.
+#[derive(Clone, Copy)]
+pub struct Answer<T> {
+    pub number: u32,
+    pub value: T,
+}
+
+// A result as it is told: `none` is the value of a refusal.
+pub fn told<T: Copy>(from: Result<T, Refusal>, none: T) -> Answer<T>
+    ensures { result ≡ told_as none (numbered from) }
+{
+    match from {
+        Ok(value) => Answer { number: 0, value },
+        Err(refusal) => Answer {
+            number: refusal.number(),
+            value: none,
+        },
+    }
+}
+
+// The number of the refusal of a check, or 0.
+pub fn number(check: Result<(), Refusal>) -> u32
+    ensures { result ≡ number_in check }
+{
+    told(check, ()).number
+}

@@ -9,7 +9,9 @@ use lib.Dec.{eqb, leb}
 use lib.ListN.{length, length-map}
 use lib.Ieee.{Float}
 use borrow.Author.Tests.{eq-eqb, eqb-true, le-leb}
+use Rattle.std.specs.Prelude.{Option, None, Some}
 use Rattle.laws.specs.Choice.{unless}
+use Rattle.moves.specs.Moves.{is_refused}
 use Rattle.laws.specs.Floats.{+0, at, positive}
 use Rattle.laws.proofs.Choices.{cond_ind, false_true, both}
 use Rattle.laws.proofs.Loops.{for_ind}
@@ -19,15 +21,14 @@ use Rattle.records.specs.declared.Counts.{Counts}
 use Rattle.weights.specs.Weights.{scaled_of, all_good, capped_of}
 use Rattle.records.specs.declared.FitConfig.{FitConfig}
 use Rattle.records.specs.declared.FitAnswer.{FitAnswer}
+use Rattle.records.specs.Answer.{refused_with}
 use Rattle.records.specs.Settings.{settings_hold, sizes_hold}
 use Rattle.entry.specs.Entry.{lengths_hold, columns_pass, span_of, checks_number, entry_number}
 use Rattle.records.specs.Observation.{passes}
-use Rattle.records.specs.Answer.{refused_with}
 use Rattle.judge.specs.Judge.{sums_of, params_hold, rmse_of, rmse_holds}
 use Rattle.calibrate.specs.End.{accepted_of, end_of}
 use Rattle.calibrate.specs.Fit.{fit_search, best_end, search_end, decided_of, refused_early, capped_as, fit_of, residuals_of}
-use Rattle.house.specs.declared.House.{House}
-use Rattle.house.specs.declared.House.TheVariants.{Malformed, File}
+use Rattle.house.specs.declared.Layout.{Layout}
 use Rattle.house.specs.declared.Quote.{Quote}
 use Rattle.house.specs.File.{house_of, tau_of, config_of, records_at}
 use Rattle.house.specs.Check.{k_of, w_of, weight_of, quote_passes, all_pass}
@@ -36,8 +37,7 @@ use Rattle.house.specs.Taken.{intake_number, kept_for, kept_of}
 use Rattle.house.proofs.Files.{file_is, quotes_length}
 use Rattle.house.proofs.Taking.{passed}
 use Rattle.house.proofs.Once.{kept_short, kept_passes, sizes_same}
-use Rattle.outcome.specs.declared.Outcome.{Outcome}
-use Rattle.outcome.specs.Outcome.{outcome_with, refused_at, fit_for, quotes_outcome, outcome_for, file_outcome, settings_for, settings_of}
+use Rattle.outcome.specs.Outcome.{OutcomeAnswer, outcome_with, refused_at, fit_for, quotes_outcome, outcome_for, file_outcome, settings_for, settings_of}
 use Rattle.text.specs.Lines.{read_line, search_line, capped_line, point_lines, refused_line, refused_floats}
 use Rattle.text.specs.Answers.{malformed_text, refused_of, refusal_text, figures_text}
 use Rattle.run.specs.Answer.{rest_text, behind_read, answer_of}
@@ -162,7 +162,7 @@ module _ (read kept : ℕ) (tau : Float) (c : FitConfig) (ks ws weights : List F
   unfolding decided_of search_end best_end
   late m us =
       let s = fit_search c ks ws us in
-      cond_ind (Late m) s.refused (late_6 m s.counts)
+      cond_ind (Late m) (is_refused s) (late_6 m s.counts)
       (cond_ind (Late m) s.found.on_edge (late_7 m s.counts) (ended m s.counts _ _ _ _ us))
 
   choice : (d : FitAnswer) (m : ℕ) (b : Bool) → eqb d.number 0 ≡ b → Late m d → P (unless b d (capped_as d m))
@@ -198,7 +198,7 @@ columns_fit qs l =
 
 -- of at most 256 quotes
 module _ (tau : Float) (config : FitConfig) (qs : List Quote) (l : length qs ≤ 256) where
-  abbrev Printed : Outcome → Type 0
+  abbrev Printed : OutcomeAnswer → Type 0
   Printed o = Form (read_line o.read o.kept ++ rest_text o.fit config (firsts qs))
 
   -- before dropping: 12 cannot be, there is room
@@ -248,11 +248,13 @@ module _ (tau : Float) (config : FitConfig) (qs : List Quote) (l : length qs ≤
           (columns_pass_lem ks (kept_passes qs ∙ p.2))
 
 -- of a file, by what it holds
-by : (s : List ℕ) (h : House) → h ≡ house_of s
+by : (s : List ℕ) (h : Option Layout) → h ≡ house_of s
     → (let o = outcome_for s h 1024 256 in Form (cond (eqb o.fit.number 43) malformed_text (read_line o.read o.kept ++ rest_text o.fit (settings_for s h) (kept_for s h))))
 unfolding refused_with
-by s Malformed e = malformed
-by s (File v n) e =
+by s None e = malformed
+by s (Some h) e =
+    let v = h.settings in
+    let n = h.count in
     let qs = records_at s v n in
     cond_ind Form (eqb (quotes_outcome (tau_of s v) (config_of s v) qs 1024 256).fit.number 43) malformed
     (quotes_form (tau_of s v) (config_of s v) qs (omega (arith, quotes_length s (20 + 88 * v) n, (file_is s v n e).1)))

@@ -7,18 +7,17 @@ use native.Mathlib.Omega.{arith}
 use lib.Dec.{eqb}
 use lib.ListN.{length}
 use borrow.Author.Tests.{le-leb, ne_eqb}
+use Rattle.std.specs.Prelude.{None}
 use Rattle.laws.proofs.Choices.{cond_ind, if_false}
 use Rattle.records.specs.Settings.{sizes_hold}
 use Rattle.records.specs.Answer.{refused_with}
-use Rattle.house.specs.declared.House.TheVariants.{Malformed, File}
-use Rattle.house.specs.File.{house_of, tau_of, config_of, records_at}
+use Rattle.house.specs.File.{File, house_of, tau_of, config_of, records_at}
 use Rattle.house.specs.Check.{all_pass}
 use Rattle.house.specs.Repeats.{all_agree, kept}
 use Rattle.house.specs.Taken.{intake_number, kept_of}
 use Rattle.house.proofs.Files.{file_is, quotes_length}
 use Rattle.house.proofs.Once.{kept_short}
-use Rattle.outcome.specs.declared.Outcome.{Outcome}
-use Rattle.outcome.specs.Outcome.{refused_at, fit_for, quotes_outcome, file_outcome, settings_of}
+use Rattle.outcome.specs.Outcome.{OutcomeAnswer, refused_at, fit_for, quotes_outcome, file_outcome, settings_of}
 use Rattle.outcome.proofs.Coming.{refused_is, fitted_is, for_house, malformed_is}
 use Rattle.outcome.proofs.OnlyMalformed.{quotes_other}
 use Rattle.text.specs.Lines.{read_line, refused_line}
@@ -26,13 +25,13 @@ use Rattle.text.specs.Answers.{malformed_text, refused_of, refusal_text}
 use Rattle.run.specs.Answer.{rest_text, behind_read, answer_of}
 
 -- the answer that an outcome gives
-answer_from : (s : List ℕ) (o : Outcome) → o ≡ file_outcome s 1024 256
+answer_from : (s : List ℕ) (o : OutcomeAnswer) → o ≡ file_outcome s 1024 256
     → cond (eqb o.fit.number 43) malformed_text (read_line o.read o.kept ++ rest_text o.fit (settings_of s) (kept_of s)) ≡ answer_of s
 unfolding answer_of behind_read
-answer_from s o e = ap (λ (o : Outcome). cond (eqb o.fit.number 43) malformed_text (read_line o.read o.kept ++ rest_text o.fit (settings_of s) (kept_of s))) e
+answer_from s o e = ap (λ (o : OutcomeAnswer). cond (eqb o.fit.number 43) malformed_text (read_line o.read o.kept ++ rest_text o.fit (settings_of s) (kept_of s))) e
 
 -- a malformed file has no such line
-pub malformed_answer : (s : List ℕ) → Malformed ≡ house_of s → answer_of s ≡ refused_line 43 0 0
+pub malformed_answer : (s : List ℕ) → None ≡ house_of s → answer_of s ≡ refused_line 43 0 0
 unfolding refused_with
 malformed_answer s e = sym (answer_from s (refused_at 43 0) (malformed_is s 1024 256 e))
 
@@ -50,13 +49,13 @@ module _ (s : List ℕ) (v n : ℕ) (e : File v n ≡ house_of s) where
 
   read_is : (file_outcome s 1024 256).read ≡ n
   unfolding quotes_outcome
-  read_is = sym (ap (λ (o : Outcome). o.read) file_outcome_lem) ∙ cond_ind (λ (o : Outcome). o.read ≡ n) (eqb (intake_number (config_of s v) (records_at s v n) 1024 256) 0) count count
+  read_is = sym (ap (λ (o : OutcomeAnswer). o.read) file_outcome_lem) ∙ cond_ind (λ (o : OutcomeAnswer). o.read ≡ n) (eqb (intake_number (config_of s v) (records_at s v n) 1024 256) 0) count count
 
   -- its `read` line and the rest
   pub answer_is : answer_of s ≡ read_line n (file_outcome s 1024 256).kept ++ behind_read s
   unfolding answer_of
   answer_is =
-      sym (if_false malformed_text (ne_eqb (file_outcome s 1024 256).fit.number 43 (λ z. quotes_other (tau_of s v) (config_of s v) (records_at s v n) 1024 256 (ap (λ (o : Outcome). o.fit.number) file_outcome_lem ∙ z))) refl)
+      sym (if_false malformed_text (ne_eqb (file_outcome s 1024 256).fit.number 43 (λ z. quotes_other (tau_of s v) (config_of s v) (records_at s v n) 1024 256 (ap (λ (o : OutcomeAnswer). o.fit.number) file_outcome_lem ∙ z))) refl)
       ∙ ap (λ (r : ℕ). read_line r (file_outcome s 1024 256).kept ++ behind_read s) read_is
 
   -- refused before dropping
@@ -103,7 +102,7 @@ module _ (s : List ℕ) (v n : ℕ) (e : File v n ≡ house_of s) where
       → (rest : List ℕ) × (answer_of s ≡ read_line n (length (kept (records_at s v n))) ++ rest)
   kept_after_dropping h k a =
       let o = fitted_is (tau_of s v) (config_of s v) (records_at s v n) 1024 256 0 (sym (number_0 h k a)) refl (fit_for (tau_of s v) (config_of s v) (kept (records_at s v n)) 1024 256) refl ∙ file_outcome_lem in
-      (behind_read s, answer_is ∙ ap (λ (m : ℕ). read_line n m ++ behind_read s) (sym (ap (λ (o : Outcome). o.kept) o)))
+      (behind_read s, answer_is ∙ ap (λ (m : ℕ). read_line n m ++ behind_read s) (sym (ap (λ (o : OutcomeAnswer). o.kept) o)))
 
   -- in any case the first line is `read n kept m`, where m is at most n
   pub first_line : (m : ℕ) × (rest : List ℕ) × (answer_of s ≡ read_line n m ++ rest) × (m ≤ n)
@@ -111,5 +110,5 @@ module _ (s : List ℕ) (v n : ℕ) (e : File v n ≡ house_of s) where
   first_line =
       let few = kept_short (records_at s v n) in
       let most : (quotes_outcome (tau_of s v) (config_of s v) (records_at s v n) 1024 256).kept ≤ n =
-      cond_ind (λ (o : Outcome). o.kept ≤ n) (eqb (intake_number (config_of s v) (records_at s v n) 1024 256) 0) (omega (arith, few, count)) (omega (arith, count)) in
-      ((file_outcome s 1024 256).kept, behind_read s, answer_is, omega (arith, most, ap (λ (o : Outcome). o.kept) file_outcome_lem))
+      cond_ind (λ (o : OutcomeAnswer). o.kept ≤ n) (eqb (intake_number (config_of s v) (records_at s v n) 1024 256) 0) (omega (arith, few, count)) (omega (arith, count)) in
+      ((file_outcome s 1024 256).kept, behind_read s, answer_is, omega (arith, most, ap (λ (o : OutcomeAnswer). o.kept) file_outcome_lem))

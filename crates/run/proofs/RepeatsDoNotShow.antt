@@ -5,15 +5,13 @@ use mathlib.Core.List.{List, ◌++◌}
 use native.Mathlib.Omega.{arith}
 use lib.ListN.{length}
 use Rattle.records.specs.declared.FitConfig.{FitConfig}
-use Rattle.house.specs.declared.House.TheVariants.{File}
-use Rattle.house.specs.File.{house_of, records_at}
+use Rattle.house.specs.File.{File, house_of, records_at}
 use Rattle.house.specs.Repeats.{kept}
 use Rattle.house.specs.Taken.{kept_of}
 use Rattle.house.specs.Encode.{Bytes, once_of}
 use Rattle.house.proofs.Files.{file_is}
 use Rattle.house.proofs.OnceRead.{once_house, once_kept, once_config}
-use Rattle.outcome.specs.declared.Outcome.{Outcome}
-use Rattle.outcome.specs.Outcome.{outcome_with, file_outcome, settings_of}
+use Rattle.outcome.specs.Outcome.{OutcomeAnswer, outcome_with, file_outcome, settings_of}
 use Rattle.outcome.proofs.Coming.{settings_file}
 use Rattle.outcome.proofs.RepeatsDoNotCount.{repeats_do_not_count}
 use Rattle.text.specs.Lines.{read_line}
@@ -36,7 +34,7 @@ module _ (s : List ℕ) (b : Bytes s) (v n : ℕ) (e : File v n ≡ house_of s) 
   rest_same : behind_read (once_of s) ≡ behind_read s
   unfolding behind_read
   rest_same =
-      ap (λ (o : Outcome). rest_text o.fit (settings_of (once_of s)) (kept_of (once_of s))) once
+      ap (λ (o : OutcomeAnswer). rest_text o.fit (settings_of (once_of s)) (kept_of (once_of s))) once
       ∙ ap (λ (c : FitConfig). rest_text (file_outcome s 1024 256).fit c (kept_of (once_of s))) settings_same
       ∙ ap (rest_text (file_outcome s 1024 256).fit (settings_of s)) (once_kept s b v n e)
 
@@ -47,6 +45,6 @@ module _ (s : List ℕ) (b : Bytes s) (v n : ℕ) (e : File v n ≡ house_of s) 
   repeats_do_not_show = (
     answer_is s v n e,
     answer_is (once_of s) v m (sym (once_house s b v n e))
-        ∙ ap (λ (k : ℕ). read_line m k ++ behind_read (once_of s)) (ap (λ (o : Outcome). o.kept) once)
+        ∙ ap (λ (k : ℕ). read_line m k ++ behind_read (once_of s)) (ap (λ (o : OutcomeAnswer). o.kept) once)
         ∙ ap (λ (t : List ℕ). read_line m m ++ t) rest_same,
   )

@@ -1,6 +1,6 @@
 -- From the outcome to the text. Assumes nothing.
 use Prim.Native.Nat.{ℕ, ◌*◌, ◌≤◌}
-use mathlib.Core.Path.{◌≡◌, refl, ap, ◌∙◌}
+use mathlib.Core.Path.{◌≡◌, refl, sym, ap, ◌∙◌}
 use mathlib.Core.Bool.{true, ◌&&◌}
 use mathlib.Core.List.{List, ◌++◌, map}
 use native.Mathlib.Omega.{arith}
@@ -8,11 +8,14 @@ use lib.Dec.{leb}
 use lib.ListN.{length, length-map}
 use lib.Ieee.{Float}
 use borrow.Author.Tests.{eq-eqb, ne_eqb, le-leb}
+use Rattle.laws.specs.Room.{written}
 use Rattle.laws.proofs.Choices.{if_true, if_false, number_stops, number_goes}
+use Rattle.records.specs.declared.FitAnswer.{FitAnswer}
+use Rattle.records.specs.Answer.{answer_in}
 use Rattle.house.specs.Check.{k_of, w_of, weight_of}
 use Rattle.house.specs.Taken.{kept_of}
 use Rattle.outcome.specs.declared.Outcome.{Outcome}
-use Rattle.outcome.specs.Outcome.{file_outcome, settings_of, residuals_for, capped_for}
+use Rattle.outcome.specs.Outcome.{OutcomeAnswer, outcome_in, outcome_with, file_outcome, settings_of, residuals_for, capped_for}
 use Rattle.outcome.proofs.Fits.{residuals_long, capped_short, file_counts}
 use Rattle.text.specs.Lines.{read_line}
 use Rattle.text.specs.Place.{placed, longest}
@@ -24,10 +27,10 @@ use Rattle.run.specs.Answer.{rest_text, behind_read, answer_of}
 pub said : {r : ℕ} {o' : List ℕ} (o t u : List ℕ) (n : ℕ) → n ≤ longest → t ≡ u → (r ≡ length t) × ((o' ≡ placed t o) × (r ≤ n)) → (r ≡ length u) × ((o' ≡ placed u o) × (r ≤ longest))
 said o t u n l e h = (h.0 ∙ ap length e, (h.1.0 ∙ ap (λ (x : List ℕ). placed x o) e, omega (arith, l, h.1.1)))
 
-module _ (s : List ℕ) (o : Outcome) (e : o ≡ file_outcome s 1024 256) where
+module _ (s : List ℕ) (o : OutcomeAnswer) (e : o ≡ file_outcome s 1024 256) where
   behind : rest_text o.fit (settings_of s) (kept_of s) ≡ behind_read s
   unfolding behind_read
-  behind = ap (λ (o : Outcome). rest_text o.fit (settings_of s) (kept_of s)) e
+  behind = ap (λ (o : OutcomeAnswer). rest_text o.fit (settings_of s) (kept_of s)) e
 
   pub says_malformed : o.fit.number ≡ 43 → malformed_text ≡ answer_of s
   unfolding answer_of
@@ -70,3 +73,22 @@ module _ (s : List ℕ) (o : Outcome) (e : o ≡ file_outcome s 1024 256) where
         ∙ ap (accepted_text o.read o.kept o.fit rs) q
         ∙ accepted_full o.read o.kept o.fit rs cs sized
         ∙ says _ (λ h. omega (arith, h, z)) (number_goes _ refl z refl)
+
+-- ---- what the code hands back, as it is told
+
+abbrev pub told_as : Outcome → FitAnswer → OutcomeAnswer
+told_as o a = outcome_with o.read o.kept a
+
+pub told_is : (s : List ℕ) (o : Outcome) {a : FitAnswer} → a ≡ answer_in o.fit → outcome_in o ≡ file_outcome s 1024 256 → told_as o a ≡ file_outcome s 1024 256
+told_is s o t e = ap (told_as o) t ∙ e
+
+-- what it leaves in the buffers
+pub residuals_told :
+    (s : List ℕ) (o : Outcome) {a : FitAnswer} {after : List Float} → a ≡ answer_in o.fit → (before : List Float)
+    → after ≡ written (outcome_in o).fit.number (residuals_for (outcome_in o).fit.slice (kept_of s)) before → after ≡ written a.number (residuals_for a.slice (kept_of s)) before
+residuals_told s o t before e = e ∙ sym (ap (λ (b : FitAnswer). written b.number (residuals_for b.slice (kept_of s)) before) t)
+
+pub capped_told :
+    (s : List ℕ) (o : Outcome) {a : FitAnswer} {after : List ℕ} → a ≡ answer_in o.fit → (before : List ℕ)
+    → after ≡ written (outcome_in o).fit.number (capped_for (settings_of s) (kept_of s)) before → after ≡ written a.number (capped_for (settings_of s) (kept_of s)) before
+capped_told s o t before e = e ∙ sym (ap (λ (b : FitAnswer). written b.number (capped_for (settings_of s) (kept_of s)) before) t)

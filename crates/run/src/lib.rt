@@ -13,15 +13,13 @@ pub fn run(file: &[u8], out: &mut [u8]) -> usize
     let mut residuals = [0.0; 1024];
     let mut capped = [0usize; 256];
     let o = outcome::of_file(file, &mut residuals, &mut capped);
-    let a = o.fit;
-    let number = a.number;
-    if number == 43 {
+    let a = records::told(o.fit);
+    if a.number == 43 {
         return text::malformed(out);
     }
-    if number != 0 {
+    if a.number != 0 {
         return text::refused(o.read, o.kept, a, out);
     }
     let n = o.kept * 4;
-    let c = a.capped;
-    text::accepted(o.read, o.kept, a, &residuals[..n], &capped[..c], out)
+    text::accepted(o.read, o.kept, a, &residuals[..n], &capped[..a.capped], out)
 }

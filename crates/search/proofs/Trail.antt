@@ -17,7 +17,7 @@ use Rattle.moves.specs.declared.Found.{Found}
 use Rattle.moves.specs.declared.Place.{Place}
 use Rattle.moves.specs.declared.Plan.{Plan}
 use Rattle.moves.specs.declared.Search.{Search}
-use Rattle.moves.specs.Moves.{width, recentred, narrowed, shrunk, stopped, can_recentre, can_shrink, moved_of}
+use Rattle.moves.specs.Moves.{is_going, width, recentred, narrowed, shrunk, stopped, can_recentre, can_shrink, moved_of}
 use Rattle.search.specs.Search.{CellFn, pass_of, counted_of, search_refused, step_of, start_of, pass_while_going, after_passes}
 use Rattle.moves.proofs.Cases.{moved_ind, recentre_left, shrink_left}
 use Rattle.search.proofs.Passes.{faces_at, updates_on, rows_counts}
@@ -74,7 +74,7 @@ module _ (f : CellFn) (p : Plan) where
   after_next q = ap (λ (k : ℕ). turns (pass_while_going f p) k 0 (start_of p)) (add-one q) ∙ turns_last (pass_while_going f p) q 0 (start_of p)
 
   -- a pass that is made is a step
-  pub after_step : (q : ℕ) → (after_passes f p q).going ≡ true → after_passes f p (q + 1) ≡ step_of f p (after_passes f p q)
+  pub after_step : (q : ℕ) → is_going (after_passes f p q) ≡ true → after_passes f p (q + 1) ≡ step_of f p (after_passes f p q)
   after_step q g = after_next q ∙ ap (λ (b : Bool). cond b (step_of f p (after_passes f p q)) (after_passes f p q)) g
 
   pub after_start : after_passes f p 0 ≡ start_of p
@@ -84,12 +84,12 @@ module _ (f : CellFn) (p : Plan) where
   module _
       (P : ℕ → Search → Type 0)
       (begins : P 0 (start_of p))
-      (steps : (q : ℕ) → (after_passes f p q).going ≡ true → P q (after_passes f p q) → P (q + 1) (step_of f p (after_passes f p q)))
-      (stays : (q : ℕ) → (after_passes f p q).going ≡ false → P q (after_passes f p q) → P (q + 1) (after_passes f p q)) where
+      (steps : (q : ℕ) → is_going (after_passes f p q) ≡ true → P q (after_passes f p q) → P (q + 1) (step_of f p (after_passes f p q)))
+      (stays : (q : ℕ) → is_going (after_passes f p q) ≡ false → P q (after_passes f p q) → P (q + 1) (after_passes f p q)) where
     next : (q : ℕ) → P q (after_passes f p q) → P (suc q) (after_passes f p (suc q))
     next q h =
         subst (λ (k : ℕ). P k (after_passes f p k)) (add-one q)
-        (subst (P (q + 1)) (sym (after_next q)) (cond_test (P (q + 1)) (after_passes f p q).going (λ e. steps q e h) (λ e. stays q e h)))
+        (subst (P (q + 1)) (sym (after_next q)) (cond_test (P (q + 1)) (is_going (after_passes f p q)) (λ e. steps q e h) (λ e. stays q e h)))
 
     -- what holds at the start, and is kept by each pass and by none, holds after q passes
     pub after_ind : (q : ℕ) → P q (after_passes f p q)
@@ -108,9 +108,9 @@ module _ (f : CellFn) (p : Plan) where
 
   pub record Trail (q : ℕ) (s : Search) : Type 0 where
     pub few : s.counts.passes ≤ q
-    pub on : s.going ≡ true → s.counts.passes ≡ q
+    pub on : is_going s ≡ true → s.counts.passes ≡ q
     -- the passes made are the first ones, and s is the state after them
-    pub made : (k : ℕ) → k < s.counts.passes → (after_passes f p k).going ≡ true
+    pub made : (k : ℕ) → k < s.counts.passes → is_going (after_passes f p k) ≡ true
     pub same : after_passes f p s.counts.passes ≡ s
     pub cells : s.counts.cells ≡ s.counts.passes * (p.n * p.n)
     pub faces : s.counts.faces ≡ sum s.counts.passes pass_faces
@@ -141,7 +141,7 @@ module _ (f : CellFn) (p : Plan) where
         shrinks = omega arith;
       }
 
-  trail_step : (q : ℕ) → (after_passes f p q).going ≡ true → Trail q (after_passes f p q) → Trail (q + 1) (step_of f p (after_passes f p q))
+  trail_step : (q : ℕ) → is_going (after_passes f p q) ≡ true → Trail q (after_passes f p q) → Trail (q + 1) (step_of f p (after_passes f p q))
   unfolding counted_of pass_of
   trail_step q g h =
       let s = after_passes f p q in
@@ -154,7 +154,7 @@ module _ (f : CellFn) (p : Plan) where
       record {
         few = omega (arith, z);
         on = λ t. z;
-        made = λ j l. below_next (λ (j : ℕ). (after_passes f p j).going ≡ true) q (λ i m. h.made i (rw e m)) g j (rw z at l);
+        made = λ j l. below_next (λ (j : ℕ). is_going (after_passes f p j) ≡ true) q (λ i m. h.made i (rw e m)) g j (rw z at l);
         same = ap (after_passes f p) z ∙ after_step q g;
         cells = rw k.passes (omega (arith, k.cells, b.cells, h.cells, w, o));
         faces = k.faces ∙ ap (λ (c : ℕ). s.counts.faces + c) b.faces ∙ ap (λ (c : ℕ). c + pass_faces q) (h.faces ∙ ap (λ (c : ℕ). sum c pass_faces) e) ∙ sym (sum_next q pass_faces) ∙ ap (λ (c : ℕ). sum c pass_faces) (sym z);
@@ -179,7 +179,7 @@ module _ (f : CellFn) (p : Plan) where
         shrinks = h.shrinks;
       })
 
-  pub passes_after : (q : ℕ) → (after_passes f p q).going ≡ true → (step_of f p (after_passes f p q)).counts.passes ≡ q + 1
+  pub passes_after : (q : ℕ) → is_going (after_passes f p q) ≡ true → (step_of f p (after_passes f p q)).counts.passes ≡ q + 1
   unfolding counted_of
   passes_after q g =
       let h = trail q in
@@ -197,22 +197,22 @@ module _ (f : CellFn) (p : Plan) where
       none e =
           let t = trail q in
           let z : after_passes f p q ≡ start_of p = sym t.same ∙ ap (after_passes f p) (sym e) ∙ after_start in
-          let g : (after_passes f p q).going ≡ true = ap (λ (s : Search). s.going) z in
+          let g : is_going (after_passes f p q) ≡ true = ap is_going z in
           let o = t.on g in
           omega (arith, o, h)
 
   -- a search that ended stays as it is
-  pub ended_stays : (k d : ℕ) → (after_passes f p k).going ≡ false → after_passes f p (k + d) ≡ after_passes f p k
+  pub ended_stays : (k d : ℕ) → is_going (after_passes f p k) ≡ false → after_passes f p (k + d) ≡ after_passes f p k
   ended_stays k zero e = ap (after_passes f p) (omega arith)
   ended_stays k (suc d) e =
       let h = ended_stays k d e in
       let n : k + suc d ≡ k + d + 1 = omega arith in
-      ap (after_passes f p) n ∙ after_next (k + d) ∙ ap (λ (b : Bool). cond b (step_of f p (after_passes f p (k + d))) (after_passes f p (k + d))) (ap (λ (t : Search). t.going) h ∙ e) ∙ h
+      ap (after_passes f p) n ∙ after_next (k + d) ∙ ap (λ (b : Bool). cond b (step_of f p (after_passes f p (k + d))) (after_passes f p (k + d))) (ap is_going h ∙ e) ∙ h
 
-  pub ended_early : (s : Search) (k l : ℕ) → s ≡ after_passes f p k → s.going ≡ false → k ≤ l → s ≡ after_passes f p l
+  pub ended_early : (s : Search) (k l : ℕ) → s ≡ after_passes f p k → is_going s ≡ false → k ≤ l → s ≡ after_passes f p l
   ended_early s k l e g h =
       let n : k + (l - k) ≡ l = omega arith in
-      e ∙ sym (ended_stays k (l - k) (sym (ap (λ (t : Search). t.going) e) ∙ g)) ∙ ap (after_passes f p) n
+      e ∙ sym (ended_stays k (l - k) (sym (ap is_going e) ∙ g)) ∙ ap (after_passes f p) n
 
-  pub stepped : (s r : Search) (k : ℕ) → s ≡ after_passes f p k → s.going ≡ true → r ≡ step_of f p s → r ≡ after_passes f p (k + 1)
-  stepped s r k e g h = h ∙ ap (step_of f p) e ∙ sym (after_step k (sym (ap (λ (t : Search). t.going) e) ∙ g))
+  pub stepped : (s r : Search) (k : ℕ) → s ≡ after_passes f p k → is_going s ≡ true → r ≡ step_of f p s → r ≡ after_passes f p (k + 1)
+  stepped s r k e g h = h ∙ ap (step_of f p) e ∙ sym (after_step k (sym (ap is_going e) ∙ g))

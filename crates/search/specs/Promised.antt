@@ -10,7 +10,7 @@ use Rattle.cell.specs.Cell.{cell_from}
 use Rattle.cell.specs.Choice.{Beats, First}
 use Rattle.moves.specs.declared.Plan.{Plan}
 use Rattle.moves.specs.declared.Search.{Search}
-use Rattle.moves.specs.Moves.{axis_point, any_edge}
+use Rattle.moves.specs.Moves.{is_going, is_refused, axis_point, any_edge}
 use Rattle.search.specs.Search.{CellFn, cell_at, after_passes, limit_of}
 
 -- ---- cells that are chosen from faces
@@ -98,21 +98,21 @@ pub record Promised (f : CellFn) (g : FaceFn) (u : UpdatesFn) (top most : ℕ) (
   -- at most `most` a cell
   pub few : s.counts.updates ≤ most * s.counts.cells
   -- the search goes on before each pass counted
-  pub made : (q : ℕ) → q < s.counts.passes → (after_passes f p q).going ≡ true
+  pub made : (q : ℕ) → q < s.counts.passes → is_going (after_passes f p q) ≡ true
   -- it is in the state s after them
   pub after : after_passes f p s.counts.passes ≡ s
   -- and where that goes on, no more passes are allowed
-  pub ended : s.going ≡ true → s.counts.passes ≡ limit_of p
+  pub ended : is_going s ≡ true → s.counts.passes ≡ limit_of p
   -- one pass is always made; this is the last
   pub last : ℕ
   pub is_last : last + 1 ≡ s.counts.passes
   -- in each pass before the last some face qualifies
   pub earlier : (q : ℕ) → q < last → Yields f g p q
   -- where the search refuses, no face of the last pass qualifies
-  pub faceless : s.refused ≡ true → Yields f g p last → ⊥
+  pub faceless : is_refused s ≡ true → Yields f g p last → ⊥
   -- where it does not refuse, some face of the last pass qualifies
-  pub yielding : s.refused ≡ false → Yields f g p last
+  pub yielding : is_refused s ≡ false → Yields f g p last
   -- no face that qualifies, in any cell of any pass made, has a smaller objective than the one found
   pub least : (q i j t : ℕ) → q < s.counts.passes → Qualifies f g p q i j t → T (lt (face_of_pass f g p q i j t).objective s.found.cell.objective) → ⊥
   -- where the search does not refuse, the one found is such a face
-  pub chosen : s.refused ≡ false → ChosenFace f g p s
+  pub chosen : is_refused s ≡ false → ChosenFace f g p s

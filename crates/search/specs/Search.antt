@@ -1,6 +1,6 @@
 -- The search of `fit_slice`, over any cell function: passes over the grid of a window, and after each the move of the window. Definitions only.
 -- docs/METHOD.md, 'The search over m and ln sigma'.
-use Rattle.std.specs.Prelude.{Bool, true, false, not, ◌&&◌, ◌||◌, cond, ℕ, ◌+◌, ◌*◌, Float}
+use Rattle.std.specs.Prelude.{Bool, true, not, ◌&&◌, ◌||◌, cond, ℕ, ◌+◌, ◌*◌, Float}
 use Rattle.std.specs.Float.Ieee.{lt}
 use Rattle.laws.specs.Loop.{turns, for}
 use Rattle.laws.specs.Floats.{+0}
@@ -11,8 +11,9 @@ use Rattle.records.specs.Answer.{no_counts}
 use Rattle.moves.specs.declared.Window.{Window}
 use Rattle.moves.specs.declared.PassBest.{PassBest}
 use Rattle.moves.specs.declared.Plan.{Plan}
+use Rattle.moves.specs.declared.Stage.TheVariants.{Going, Refused}
 use Rattle.moves.specs.declared.Search.{Search}
-use Rattle.moves.specs.Moves.{axis_point, width, moved_of}
+use Rattle.moves.specs.Moves.{is_going, axis_point, width, moved_of}
 
 -- what a fit's cell yields at (m, ln sigma)
 abbrev pub CellFn : Type 0
@@ -63,7 +64,7 @@ counted_of n b =
 
 -- the search ends in a refusal
 unfoldable pub search_refused : Search → Counts → Search
-search_refused s n = record { going = false; refused = true; window = s.window; smallest = s.smallest; found = s.found; counts = n }
+search_refused s n = record { stage = Refused; window = s.window; smallest = s.smallest; found = s.found; counts = n }
 
 -- one pass, counted, and the move after it. A pass with no face refuses, whatever was found before
 unfoldable pub step_of : CellFn → Plan → Search → Search
@@ -76,8 +77,7 @@ step_of f p s =
 unfoldable pub start_of : Plan → Search
 start_of p =
     record {
-      going = true;
-      refused = false;
+      stage = Going;
       window = p.domain;
       smallest = width p.domain.m;
       found = record { cell = no_cell; m = +0; ls = +0; on_edge = true };
@@ -86,7 +86,7 @@ start_of p =
 
 -- a pass is made only while the search goes on
 abbrev pub pass_while_going : CellFn → Plan → ℕ → Search → Search
-pass_while_going f p q s = cond s.going (step_of f p s) s
+pass_while_going f p q s = cond (is_going s) (step_of f p s) s
 
 -- the state after q passes, or, where the search ended earlier, at its end. Pass q, counted from 0, is made in the window of the state after q passes
 unfoldable pub after_passes : CellFn → Plan → ℕ → Search

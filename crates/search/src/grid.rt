@@ -1,5 +1,5 @@
 // A pass: the best cell of a window's grid.
-ghost use Rattle.std.specs.Prelude.{◌≡◌, ◌^◌, ◌≤◌, ◌<◌, length};
+ghost use Rattle.std.specs.Prelude.{◌≡◌, ◌^◌, ◌≤◌, ◌<◌, take};
 ghost use Rattle.laws.specs.Room.{filled_on};
 ghost use Rattle.cell.specs.Cell.{no_cell, inner_of};
 ghost use Rattle.search.specs.Search.{better, consider, grid_row, pass_of};
@@ -14,26 +14,41 @@ fn fill_sigmas(a: Axis, n: usize, sigmas: &mut [f64; 256])
     requires { n ≤ 255 }
     ensures { sigmas.new ≡ filled_on n (sigma_at a n) sigmas.old }
 {
+    // Stays: of iter_mut under enumerate no promise says what it leaves.
     for j in 0..n {
         sigmas[j] = exponent::exp(points::linspace_at(a.lo, a.hi, n, j));
     }
 }
 
-// One cell, in room that is used for every cell of a pass.
-fn cell_at(
-    ks: &[f64],
-    ws: &[f64],
-    weights: &[f64],
-    l: Limits,
-    m: f64,
-    sigma: f64,
-    ys: &mut [f64; 256],
-    hs: &mut [f64; 256],
-) -> Cell
-    requires { (length ys.old ≡ 256) × (length hs.old ≡ 256) }
-    ensures { (result ≡ inner_of ks.now ws.now weights.now l m sigma) × (length ys.new ≡ 256) × (length hs.new ≡ 256) }
+// What the cells of a fit are made from.
+#[derive(Clone, Copy)]
+pub(crate) struct Task<'a> {
+    pub(crate) ks: &'a [f64],
+    pub(crate) ws: &'a [f64],
+    pub(crate) weights: &'a [f64],
+    pub(crate) l: Limits,
+}
+
+// Room that is used for every cell of a pass.
+#[derive(Drop)]
+struct Rooms {
+    ys: [f64; 256],
+    hs: [f64; 256],
+}
+
+fn cell_at(o: Task, m: f64, sigma: f64, rooms: &mut Rooms) -> Cell
+    ensures { result ≡ inner_of o.entry.ks.now o.entry.ws.now o.entry.weights.now o.entry.l m sigma }
 {
-    cell::inner_on(ks, ws, weights, l, m, sigma, ys, hs)
+    cell::inner_on(
+        o.ks,
+        o.ws,
+        o.weights,
+        o.l,
+        m,
+        sigma,
+        &mut rooms.ys,
+        &mut rooms.hs,
+    )
 }
 
 fn better_than(c: Cell, b: Cell) -> bool
@@ -50,8 +65,7 @@ fn considered(b: PassBest, c: Cell, i: usize, j: usize) -> PassBest
     let cells = b.cells + 1;
     let faces = b.faces + c.faces;
     let updates = b.updates + c.updates;
-    let old = b.cell;
-    if better_than(c, old) {
+    if better_than(c, b.cell) {
         return PassBest {
             cell: c,
             i,
@@ -62,36 +76,30 @@ fn considered(b: PassBest, c: Cell, i: usize, j: usize) -> PassBest
         };
     }
     PassBest {
-        cell: old,
-        i: b.i,
-        j: b.j,
         cells,
         faces,
         updates,
+        ..b
     }
 }
 
 // Row i of the grid: of equal cells the earlier wins.
 fn row(
-    ks: &[f64],
-    ws: &[f64],
-    weights: &[f64],
-    l: Limits,
+    o: Task,
     w: Window,
     n: usize,
-    sigmas: &[f64; 256],
-    ys: &mut [f64; 256],
-    hs: &mut [f64; 256],
+    sigmas: &[f64],
+    rooms: &mut Rooms,
     i: usize,
     b: PassBest,
 ) -> PassBest
-    requires { (n ≤ 255) × (b.cells < 2 ^ 50) × (b.faces < 2 ^ 50) × (b.updates < 2 ^ 50) × (sigmas.now ≡ sigmas_of w.s n) × (length ys.old ≡ 256) × (length hs.old ≡ 256) }
-    ensures { (result ≡ grid_row (fit_cell ks.now ws.now weights.now l) w n i b) × (length ys.new ≡ 256) × (length hs.new ≡ 256) }
+    requires { (n ≤ 255) × (b.cells < 2 ^ 50) × (b.faces < 2 ^ 50) × (b.updates < 2 ^ 50) × (sigmas.now ≡ take n (sigmas_of w.s n)) }
+    ensures { result ≡ grid_row (fit_cell o.entry.ks.now o.entry.ws.now o.entry.weights.now o.entry.l) w n i b }
 {
     let m = points::linspace_at(w.m.lo, w.m.hi, n, i);
     let mut best = b;
-    for j in 0..n {
-        let c = cell_at(ks, ws, weights, l, m, sigmas[j], ys, hs);
+    for (j, sigma) in sigmas.iter().enumerate() {
+        let c = cell_at(o, m, *sigma, rooms);
         best = considered(best, c, i, j);
     }
     best
@@ -100,31 +108,16 @@ fn row(
 pub(crate) fn no_cell() -> Cell
     ensures { result ≡ no_cell }
 {
-    Cell {
-        some: false,
-        objective: 0.0,
-        x: [0.0; 3],
-        active: [false; 7],
-        faces: 0,
-        updates: 0,
-    }
+    Cell::default()
 }
 
 // The whole grid, m outside and ln sigma inside.
-pub(crate) fn pass(
-    ks: &[f64],
-    ws: &[f64],
-    weights: &[f64],
-    l: Limits,
-    w: Window,
-    n: usize,
-) -> PassBest
+pub(crate) fn pass(o: Task, w: Window, n: usize) -> PassBest
     requires { n ≤ 255 }
-    ensures { result ≡ pass_of (fit_cell ks.now ws.now weights.now l) w n }
+    ensures { result ≡ pass_of (fit_cell o.entry.ks.now o.entry.ws.now o.entry.weights.now o.entry.l) w n }
 {
-    let none = no_cell();
     let mut best = PassBest {
-        cell: none,
+        cell: no_cell(),
         i: 0,
         j: 0,
         cells: 0,
@@ -132,11 +125,13 @@ pub(crate) fn pass(
         updates: 0,
     };
     let mut sigmas = [0.0; 256];
-    let mut ys = [0.0; 256];
-    let mut hs = [0.0; 256];
+    let mut rooms = Rooms {
+        ys: [0.0; 256],
+        hs: [0.0; 256],
+    };
     fill_sigmas(w.s, n, &mut sigmas);
     for i in 0..n {
-        best = row(ks, ws, weights, l, w, n, &sigmas, &mut ys, &mut hs, i, best);
+        best = row(o, w, n, &sigmas[..n], &mut rooms, i, best);
     }
     best
 }

@@ -9,7 +9,8 @@ ghost use Rattle.search.specs.Run.{fit_cell, plan_sizes_hold, planned_search};
 ghost use Rattle.search.specs.Roomy.{Roomy};
 
 use cell::Limits;
-use moves::{Found, PassBest, Plan, Search};
+use grid::Task;
+use moves::{Found, PassBest, Plan, Search, Stage};
 use records::Counts;
 
 fn counted(n: Counts, b: PassBest) -> Counts
@@ -18,35 +19,29 @@ fn counted(n: Counts, b: PassBest) -> Counts
 {
     Counts {
         passes: n.passes + 1,
-        recentres: n.recentres,
-        shrinks: n.shrinks,
         cells: n.cells + b.cells,
         faces: n.faces + b.faces,
         updates: n.updates + b.updates,
+        ..n
     }
 }
 
 fn refuse(s: Search, n: Counts) -> Search
     ensures { result ≡ search_refused s n }
 {
-    let window = s.window;
-    let found = s.found;
     Search {
-        going: false,
-        refused: true,
-        window,
-        smallest: s.smallest,
-        found,
+        stage: Stage::Refused,
         counts: n,
+        ..s
     }
 }
 
 // One pass and the move after it. A pass with no face refuses, whatever was found before.
-fn step(ks: &[f64], ws: &[f64], weights: &[f64], l: Limits, p: Plan, s: Search) -> Search
+fn step(o: Task, p: Plan, s: Search) -> Search
     requires { Roomy p s }
-    ensures { result ≡ step_of (fit_cell ks.now ws.now weights.now l) p s }
+    ensures { result ≡ step_of (fit_cell o.entry.ks.now o.entry.ws.now o.entry.weights.now o.entry.l) p s }
 {
-    let b = grid::pass(ks, ws, weights, l, s.window, p.n);
+    let b = grid::pass(o, s.window, p.n);
     let n = counted(s.counts, b);
     if b.cell.some {
         return moves::moved(p, s, n, b);
@@ -58,35 +53,32 @@ fn step(ks: &[f64], ws: &[f64], weights: &[f64], l: Limits, p: Plan, s: Search) 
 fn start(p: Plan) -> Search
     ensures { result ≡ start_of p }
 {
-    let none = grid::no_cell();
-    let window = p.domain;
     Search {
-        going: true,
-        refused: false,
-        window,
+        stage: Stage::Going,
+        window: p.domain,
         smallest: p.domain.m.hi - p.domain.m.lo,
         found: Found {
-            cell: none,
+            cell: grid::no_cell(),
             m: 0.0,
             ls: 0.0,
             on_edge: true,
         },
-        counts: records::no_counts(),
+        counts: Counts::default(),
     }
 }
 
 // Passes until the search ends, or there were as many as the settings allow.
-fn searched(ks: &[f64], ws: &[f64], weights: &[f64], l: Limits, p: Plan) -> Search
+fn searched(o: Task, p: Plan) -> Search
     requires { plan_sizes_hold p ≡ true }
-    ensures { result ≡ search_of (fit_cell ks.now ws.now weights.now l) p }
+    ensures { result ≡ search_of (fit_cell o.entry.ks.now o.entry.ws.now o.entry.weights.now o.entry.l) p }
 {
     let limit = p.refinements + 2 * p.max_recentres + 1;
     let mut s = start(p);
     for t in 0..limit {
-        if !s.going {
+        if !s.stage.goes_on() {
             return s;
         }
-        s = step(ks, ws, weights, l, p, s);
+        s = step(o, p, s);
     }
     s
 }
@@ -101,9 +93,8 @@ fn sizes_hold(p: Plan) -> bool
 pub fn run(ks: &[f64], ws: &[f64], weights: &[f64], l: Limits, p: Plan) -> Search
     ensures { result ≡ planned_search ks.now ws.now weights.now l p }
 {
-    let sized = sizes_hold(p);
-    if !sized {
-        return start(p);
+    if sizes_hold(p) {
+        return searched(Task { ks, ws, weights, l }, p);
     }
-    searched(ks, ws, weights, l, p)
+    start(p)
 }

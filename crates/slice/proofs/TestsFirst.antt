@@ -5,12 +5,11 @@ use mathlib.Core.Logic.{◌⊎◌, inl, inr, ⊎_elim}
 use Prim.Native.Nat.{ℕ, ◌≤◌}
 use native.Mathlib.Omega.{arith}
 use lib.Dec.{eqb}
+use Rattle.std.specs.Prelude.{Err}
 use lib.Ieee.{Float, lt, le}
 use Rattle.laws.specs.Floats.{+0, one, abs_of, finite, positive}
 use Rattle.laws.proofs.Choices.{cond_ind, number_no}
 use Rattle.slice.specs.declared.SviSlice.{SviSlice}
-use Rattle.slice.specs.declared.Level.TheVariants as level
-use Rattle.slice.specs.declared.Evaluated.TheVariants as evaluated
 use Rattle.slice.specs.Slice.{range_number, three_finite, lowest_of, lee_of, lee_bound, domain_number, number_of, level_if_good, minimum_of, lee_slope_of, eval_of}
 
 module _ (s : SviSlice) where
@@ -45,14 +44,14 @@ module _ (s : SviSlice) where
     pub number_21_to_28 : (21 ≤ number_of s) × (number_of s ≤ 28)
     number_21_to_28 = ⊎_elim (λ e. absurd (bad e)) (λ h. h) number
 
-    pub minimum_refused : minimum_of s ≡ level.Refused (number_of s)
+    pub minimum_refused : minimum_of s ≡ Err (number_of s)
     unfolding minimum_of level_if_good
-    minimum_refused = sym (number_no _ level.Refused refl bad)
+    minimum_refused = sym (number_no _ Err refl bad)
 
-    pub lee_slope_refused : lee_slope_of s ≡ level.Refused (number_of s)
+    pub lee_slope_refused : lee_slope_of s ≡ Err (number_of s)
     unfolding lee_slope_of level_if_good
-    lee_slope_refused = sym (number_no _ level.Refused refl bad)
+    lee_slope_refused = sym (number_no _ Err refl bad)
 
-    pub eval_refused : (k : Float) → eval_of s k ≡ evaluated.Refused (number_of s)
+    pub eval_refused : (k : Float) → eval_of s k ≡ Err (number_of s)
     unfolding eval_of
-    eval_refused k = sym (number_no _ evaluated.Refused refl bad)
+    eval_refused k = sym (number_no _ Err refl bad)

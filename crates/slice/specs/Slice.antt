@@ -1,6 +1,6 @@
 -- What the functions of a slice answer (svi.rs: `KRange`, `SviSlice`), on every input. Every operation is rounded once, in the order written. Definitions only.
 -- docs/METHOD.md, 'The slice'.
-use Rattle.std.specs.Prelude.{Bool, ◌&&◌, cond, ℕ, Float}
+use Rattle.std.specs.Prelude.{Bool, ◌&&◌, cond, ℕ, Float, Result, Ok, Err}
 use Rattle.std.specs.Float.Ieee.{lt, le}
 use Rattle.laws.specs.Choice.{unless, refusing}
 use Rattle.laws.specs.Floats.{◌+f◌, ◌-f◌, ◌*f◌, ◌/f◌, +0, one, two, abs_of, finite, positive, max_of}
@@ -10,14 +10,6 @@ use Rattle.slice.specs.declared.KRange.{KRange}
 use Rattle.slice.specs.declared.SviSlice.{SviSlice}
 use Rattle.slice.specs.declared.Values.{Values}
 use Rattle.slice.specs.declared.Wing.{Wing}
-use Rattle.slice.specs.declared.Ranged.{Ranged}
-use Rattle.slice.specs.declared.Ranged.TheVariants as ranged
-use Rattle.slice.specs.declared.Made.{Made}
-use Rattle.slice.specs.declared.Made.TheVariants as made
-use Rattle.slice.specs.declared.Level.{Level}
-use Rattle.slice.specs.declared.Level.TheVariants as level
-use Rattle.slice.specs.declared.Evaluated.{Evaluated}
-use Rattle.slice.specs.declared.Evaluated.TheVariants as evaluated
 
 -- ---- the k range
 
@@ -30,10 +22,10 @@ unfoldable pub range_number : KRange → ℕ
 range_number r = unless ((finite r.lo && finite r.hi) && le r.lo r.hi) 21 0
 
 -- `KRange::new`
-unfoldable pub ranged_of : Float → Float → Ranged
+unfoldable pub ranged_of : Float → Float → Result KRange ℕ
 ranged_of lo hi =
     let r : KRange = record { lo = lo; hi = hi } in
-    refusing (range_number r) ranged.Refused (ranged.Range r)
+    refusing (range_number r) Err (Ok r)
 
 -- ---- the tests
 
@@ -70,10 +62,10 @@ number_of s =
     (unless (three_finite s.tau s.a s.b && three_finite s.rho s.m s.sigma) 22 (domain_number s))
 
 -- `SviSlice::new`; a range that fails is 21 here too
-unfoldable pub made_of : Float → Float → Float → Float → Float → Float → KRange → Made
+unfoldable pub made_of : Float → Float → Float → Float → Float → Float → KRange → Result SviSlice ℕ
 made_of tau a b rho m sigma range =
     let s : SviSlice = record { tau = tau; a = a; b = b; rho = rho; m = m; sigma = sigma; k_range = range } in
-    refusing (number_of s) made.Refused (made.Slice s)
+    refusing (number_of s) Err (Ok s)
 
 -- ---- evaluation
 
@@ -112,31 +104,31 @@ unfoldable pub values_of : SviSlice → Float → Values
 values_of s k = values_at s (k -f s.m) (hypot_of (k -f s.m) s.sigma)
 
 -- 30, a result that is not finite; 31, no curvature where b > 0
-unfoldable pub judged_of : Float → Values → Evaluated
+unfoldable pub judged_of : Float → Values → Result Values ℕ
 judged_of b v =
-    unless (three_finite v.w v.w_k v.w_kk) (evaluated.Refused 30)
-    (cond (lt +0 b && le v.w_kk +0) (evaluated.Refused 31) (evaluated.At v))
+    unless (three_finite v.w v.w_k v.w_kk) (Err 30)
+    (cond (lt +0 b && le v.w_kk +0) (Err 31) (Ok v))
 
 -- of a slice that has passed its tests: 29, k; then as judged
-unfoldable pub eval_raw : SviSlice → Float → Evaluated
-eval_raw s k = unless (finite k) (evaluated.Refused 29) (judged_of s.b (values_of s k))
+unfoldable pub eval_raw : SviSlice → Float → Result Values ℕ
+eval_raw s k = unless (finite k) (Err 29) (judged_of s.b (values_of s k))
 
 -- ---- the same of a slice that a caller may have written: 21 to 28 first
 
-unfoldable pub level_if_good : SviSlice → Float → Level
-level_if_good s v = refusing (number_of s) level.Refused (level.Value v)
+unfoldable pub level_if_good : SviSlice → Float → Result Float ℕ
+level_if_good s v = refusing (number_of s) Err (Ok v)
 
 -- `minimum`
-unfoldable pub minimum_of : SviSlice → Level
+unfoldable pub minimum_of : SviSlice → Result Float ℕ
 minimum_of s = level_if_good s (lowest_of s)
 
 -- `lee_slope`
-unfoldable pub lee_slope_of : SviSlice → Level
+unfoldable pub lee_slope_of : SviSlice → Result Float ℕ
 lee_slope_of s = level_if_good s (lee_of s)
 
 -- `eval`
-unfoldable pub eval_of : SviSlice → Float → Evaluated
-eval_of s k = refusing (number_of s) evaluated.Refused (eval_raw s k)
+unfoldable pub eval_of : SviSlice → Float → Result Values ℕ
+eval_of s k = refusing (number_of s) Err (eval_raw s k)
 
 -- ---- where there is no slice
 

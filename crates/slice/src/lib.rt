@@ -2,17 +2,20 @@
 #![tactic(auto)]
 
 ghost use Rattle.std.specs.Prelude.{◌≡◌};
+ghost use Rattle.refusals.specs.Numbers.{numbered, number_in};
 ghost use Rattle.slice.specs.Slice.{holds_k, range_number, ranged_of, lowest_of, lee_of, domain_number, number_of, made_of, wing_of, across_of, along_of, values_of, judged_of, eval_raw, minimum_of, lee_slope_of, eval_of, three_finite};
 
+use refusals::Refusal;
+
 #[repr(C)]
-#[derive(Clone, Copy)]
+#[derive(Clone, Copy, Default)]
 pub struct KRange {
     pub lo: f64,
     pub hi: f64,
 }
 
 #[repr(C)]
-#[derive(Clone, Copy)]
+#[derive(Clone, Copy, Default)]
 pub struct SviSlice {
     pub tau: f64,
     pub a: f64,
@@ -24,35 +27,11 @@ pub struct SviSlice {
 }
 
 // w, dw/dk and d2w/dk2 at a point.
-#[derive(Clone, Copy)]
+#[derive(Clone, Copy, Default)]
 pub struct Values {
     pub w: f64,
     pub w_k: f64,
     pub w_kk: f64,
-}
-
-#[derive(Clone, Copy)]
-pub enum Ranged {
-    Range(KRange),
-    Refused(u32),
-}
-
-#[derive(Clone, Copy)]
-pub enum Made {
-    Slice(SviSlice),
-    Refused(u32),
-}
-
-#[derive(Clone, Copy)]
-pub enum Level {
-    Value(f64),
-    Refused(u32),
-}
-
-#[derive(Clone, Copy)]
-pub enum Evaluated {
-    At(Values),
-    Refused(u32),
 }
 
 // The two factors of a slice's formula: the level over b, and the slope over b.
@@ -62,24 +41,23 @@ struct Wing {
     slope: f64,
 }
 
-// 21, or 0 for a range that is finite with lo <= hi.
-fn range_number(r: KRange) -> u32
-    ensures { result ≡ range_number r }
+// 21 unless the range is finite with lo <= hi.
+fn check_range(r: KRange) -> Result<(), Refusal>
+    ensures { number_in result ≡ range_number r }
 {
-    let ok = bits::is_finite(r.lo) & bits::is_finite(r.hi) & (r.lo <= r.hi);
-    bits::pick_number(ok, 0, 21)
+    if bits::is_finite(r.lo) & bits::is_finite(r.hi) & (r.lo <= r.hi) {
+        return Ok(());
+    }
+    Err(Refusal::KRange)
 }
 
 impl KRange {
-    pub fn new(lo: f64, hi: f64) -> Ranged
-        ensures { result ≡ ranged_of lo hi }
+    pub fn new(lo: f64, hi: f64) -> Result<KRange, Refusal>
+        ensures { numbered result ≡ ranged_of lo hi }
     {
         let range = KRange { lo, hi };
-        let n = range_number(range);
-        if n == 0 {
-            return Ranged::Range(range);
-        }
-        Ranged::Refused(n)
+        check_range(range)?;
+        Ok(range)
     }
 
     // Whether k is inside the range, ends included.
@@ -111,46 +89,46 @@ pub fn lee(s: SviSlice) -> f64
     s.b * (1.0 + bits::magnitude(s.rho))
 }
 
-// The tests of `SviSlice::new` from the second on: the number of the first that fails, or 0.
-fn domain_number(s: SviSlice) -> u32
-    ensures { result ≡ domain_number s }
+// The tests of `SviSlice::new` from the second on, 23 to 28: the first that fails.
+fn check_domain(s: SviSlice) -> Result<(), Refusal>
+    ensures { number_in result ≡ domain_number s }
 {
     if s.tau <= 0.0 {
-        return 23;
+        return Err(Refusal::SliceTau);
     }
     if s.b < 0.0 {
-        return 24;
+        return Err(Refusal::B);
     }
     let rho = bits::magnitude(s.rho);
     if 1.0 < rho {
-        return 25;
+        return Err(Refusal::Rho);
     }
     if s.sigma <= 0.0 {
-        return 26;
+        return Err(Refusal::Sigma);
     }
     let slope = lee(s);
     if SviSlice::LEE_SLOPE_BOUND < slope {
-        return 27;
+        return Err(Refusal::Lee);
     }
     let low = lowest(s);
-    bits::pick_number(bits::is_finite(low) & (0.0 < low), 0, 28)
+    // Stays, and no is_positive: the edit zero_minimum is of this line.
+    if bits::is_finite(low) & (0.0 < low) {
+        return Ok(());
+    }
+    Err(Refusal::Minimum)
 }
 
-// The number of the first test that a slice fails: 21, then 22 to 28; or 0.
-pub fn number(s: SviSlice) -> u32
-    ensures { result ≡ number_of s }
+// The first test that a slice fails: 21, then 22 to 28.
+pub fn check(s: SviSlice) -> Result<(), Refusal>
+    ensures { number_in result ≡ number_of s }
 {
-    let range = s.k_range;
-    let bad = range_number(range);
-    if bad != 0 {
-        return bad;
-    }
+    check_range(s.k_range)?;
     let first = three_finite(s.tau, s.a, s.b);
     let last = three_finite(s.rho, s.m, s.sigma);
     if first & last {
-        return domain_number(s);
+        return check_domain(s);
     }
-    22
+    Err(Refusal::NotFinite)
 }
 
 // Where rho and x have opposite signs: the sums are rationalised, so that no digits are lost.
@@ -199,37 +177,44 @@ fn values_at(s: SviSlice, k: f64) -> Values
 }
 
 // Refuses what is not finite, then a curvature that fell to zero.
-fn judged(b: f64, v: Values) -> Evaluated
-    ensures { result ≡ judged_of b v }
+fn judged(b: f64, v: Values) -> Result<Values, Refusal>
+    ensures { numbered result ≡ judged_of b v }
 {
     let good = three_finite(v.w, v.w_k, v.w_kk);
     if !good {
-        return Evaluated::Refused(30);
+        return Err(Refusal::Eval);
     }
     let flat = (0.0 < b) & (v.w_kk <= 0.0);
     if flat {
-        return Evaluated::Refused(31);
+        return Err(Refusal::Curvature);
     }
-    Evaluated::At(v)
+    Ok(v)
 }
 
 // w and its derivatives of a slice that has passed its tests.
-pub fn eval_tested(s: SviSlice, k: f64) -> Evaluated
-    ensures { result ≡ eval_raw s k }
+pub fn eval_tested(s: SviSlice, k: f64) -> Result<Values, Refusal>
+    ensures { numbered result ≡ eval_raw s k }
 {
-    let good = bits::is_finite(k);
-    if good {
+    if bits::is_finite(k) {
         return judged(s.b, values_at(s, k));
     }
-    Evaluated::Refused(29)
+    Err(Refusal::EvalK)
 }
 
 impl SviSlice {
     // Lee's bound on the slope of w.
     pub const LEE_SLOPE_BOUND: f64 = 2.0;
 
-    pub fn new(tau: f64, a: f64, b: f64, rho: f64, m: f64, sigma: f64, k_range: KRange) -> Made
-        ensures { result ≡ made_of tau a b rho m sigma k_range }
+    pub fn new(
+        tau: f64,
+        a: f64,
+        b: f64,
+        rho: f64,
+        m: f64,
+        sigma: f64,
+        k_range: KRange,
+    ) -> Result<SviSlice, Refusal>
+        ensures { numbered result ≡ made_of tau a b rho m sigma k_range }
     {
         let s = SviSlice {
             tau,
@@ -240,40 +225,28 @@ impl SviSlice {
             sigma,
             k_range,
         };
-        let n = number(s);
-        if n == 0 {
-            return Made::Slice(s);
-        }
-        Made::Refused(n)
+        check(s)?;
+        Ok(s)
     }
 
-    pub fn minimum(self) -> Level
-        ensures { result ≡ minimum_of self }
+    pub fn minimum(self) -> Result<f64, Refusal>
+        ensures { numbered result ≡ minimum_of self }
     {
-        let n = number(self);
-        if n == 0 {
-            return Level::Value(lowest(self));
-        }
-        Level::Refused(n)
+        check(self)?;
+        Ok(lowest(self))
     }
 
-    pub fn lee_slope(self) -> Level
-        ensures { result ≡ lee_slope_of self }
+    pub fn lee_slope(self) -> Result<f64, Refusal>
+        ensures { numbered result ≡ lee_slope_of self }
     {
-        let n = number(self);
-        if n == 0 {
-            return Level::Value(lee(self));
-        }
-        Level::Refused(n)
+        check(self)?;
+        Ok(lee(self))
     }
 
-    pub fn eval(self, k: f64) -> Evaluated
-        ensures { result ≡ eval_of self k }
+    pub fn eval(self, k: f64) -> Result<Values, Refusal>
+        ensures { numbered result ≡ eval_of self k }
     {
-        let n = number(self);
-        if n == 0 {
-            return eval_tested(self, k);
-        }
-        Evaluated::Refused(n)
+        check(self)?;
+        eval_tested(self, k)
     }
 }

@@ -7,6 +7,7 @@ pub mod Same
 pub mod Segments
 pub mod Solutions
 pub mod Steps
+mod Copies
 pub mod Updates
 pub mod Views
 pub mod Whole

@@ -2,25 +2,26 @@
 use mathlib.Core.Path.{◌≡◌, refl, sym, ap, ap₂, subst, ◌∙◌}
 use mathlib.Core.Bool.{Bool, true, false, not, ◌&&◌, ◌||◌, cond, beq}
 use mathlib.Core.List.{List}
-use Prim.Native.Nat.{ℕ, zero, suc, ◌+◌, ◌-◌, ◌*◌, ◌≤◌, ◌<◌}
-use native.Mathlib.Nat.{zero-mul, mul-pos, add-zero, zero-add, add-sub_cancel, sub-add_cancel}
+use Prim.Native.Nat.{ℕ, zero, suc, ◌+◌, ◌-◌, ◌*◌, ◌≤◌, ◌<◌, min}
+use native.Mathlib.Nat.{zero-mul, mul-pos, add-zero, zero-add, sub-add_cancel}
 use native.Mathlib.Omega.{arith}
-use lib.Dec.{T, ltb, leb, eqb, ltb→lt}
+use lib.Dec.{T, ltb, leb, eqb}
 use lib.IntN.{ℤ}
 use lib.Seq.{set-get_or}
 use lib.ListN.{set}
-use lib.Ieee.{Float, nan, inf, fin, up, down, lt, le, eq, ne, neg, is_nan, of_bits}
+use lib.Ieee.{Float, nan, inf, fin, up, down, lt, le, eq, neg, is_nan, of_bits}
 use lib.Ieee.Fits.{up_pos}
 use lib.Ieee.Bits.{is_true}
-use borrow.Author.Tests.{ltb-true, ltb-false, le-ltb, le-leb, lt-leb, not-true, not-false}
+use borrow.Author.Tests.{ltb-true, ltb-false, le-ltb, le-leb, lt-leb}
 use Rattle.laws.specs.Loop.{turns}
-use Rattle.laws.specs.Floats.{+0, at, abs_of, unsigned_of, max_of}
+use Rattle.laws.specs.Floats.{◌-f◌, ◌/f◌, +0, at, abs_of, unsigned_of, max_of, finite}
 use Rattle.laws.proofs.Choices.{false_true, cond_test, if_true, if_false}
 use Rattle.laws.proofs.Floats.{nan_test}
-use Rattle.laws.proofs.Loops.{again, halted}
+use Rattle.laws.proofs.Loops.{again, ended, halted}
 use Rattle.laws.proofs.Order.{lt_le_trans, lt_or, lt→le}
 use Rattle.solver.specs.Solve.{entry, ranked, row_scale_of, exchange}
-use Rattle.solver.specs.Rows.{NotBelowZero, Room, Reduced, room, reduced, pivot_in, swap_in, clear_in, raised_in, cleared_in, column_in, from_in, most_of, most_from}
+use Rattle.std.specs.Prelude.{Result, Ok, Err}
+use Rattle.solver.specs.Rows.{NotBelowZero, Room, Reduced, tail_in, back_row_in, back_from, spot, room, reduced, counted, eliminated, pivot_in, swap_in, clear_in, raised_in, cleared_in, column_in, from_in, most_of, most_from}
 
 cond_same : {A : Type 0} {x : A} (t : Bool) → cond t x x ≡ x
 cond_same true = refl
@@ -103,20 +104,20 @@ nan_unsigned : (x : Float) → is_nan (unsigned_of x) ≡ is_nan (abs_of x)
 unfolding is_nan
 nan_unsigned x = unsigned_ind (λ (a b : Float). is_nan a ≡ is_nan b) (λ y. refl) (λ e. refl) x
 
--- the code's two tests, a <= b and b != b, of magnitudes of both forms
+-- the code's two tests, a <= b and whether b is a NaN, of magnitudes of both forms
 module _ (x y a b : Float) (f : a ≡ unsigned_of x) (g : b ≡ unsigned_of y) where
-  tested : ranked (abs_of x) (abs_of y) ≡ (ne b b || le a b)
+  tested : ranked (abs_of x) (abs_of y) ≡ (is_nan b || le a b)
   unfolding ranked
   tested =
-      sym (ap₂ ◌||◌ (nan_test b ∙ ap is_nan g ∙ nan_unsigned y) (ap₂ le f g ∙ le_unsigned x (unsigned_of y) ∙ unsigned_le (abs_of x) y))
+      sym (ap₂ ◌||◌ (ap is_nan g ∙ nan_unsigned y) (ap₂ le f g ∙ le_unsigned x (unsigned_of y) ∙ unsigned_le (abs_of x) y))
 
   pub ranked_least : le a b ≡ true → ranked (abs_of x) (abs_of y) ≡ true
-  ranked_least h = tested ∙ ap (λ (t : Bool). ne b b || t) h ∙ or_true (ne b b)
+  ranked_least h = tested ∙ ap (λ (t : Bool). is_nan b || t) h ∙ or_true (is_nan b)
 
-  pub ranked_nan : ne b b ≡ true → ranked (abs_of x) (abs_of y) ≡ true
+  pub ranked_nan : is_nan b ≡ true → ranked (abs_of x) (abs_of y) ≡ true
   ranked_nan h = tested ∙ ap (λ (t : Bool). t || le a b) h
 
-  pub ranked_not : le a b ≡ false → ne b b ≡ false → ranked (abs_of x) (abs_of y) ≡ false
+  pub ranked_not : le a b ≡ false → is_nan b ≡ false → ranked (abs_of x) (abs_of y) ≡ false
   ranked_not h k = tested ∙ ap₂ ◌||◌ k h
 
 -- ---- the scale, row by row
@@ -253,21 +254,6 @@ most_split k n l h =
     let more : most_of (d + 1) ≡ d * (d + 1) + most_of d = omega (arith, cubic_more d) in
     most_here k n h ∙ rw e at more ∙ ap (λ (x : ℕ). d * (6 - k) + x) (sym (most_here (k + 1) n (omega arith)))
 
-pub most_fits : (k : ℕ) {n left : ℕ} → 6 - k ≤ n → most_from k n ≤ left → most_of (6 - k) ≤ left
-most_fits k {n} h p = rw (most_here k n h) at p
-
-pub clear_fits : (k : ℕ) {n left : ℕ} → T (ltb k 6) → 6 - k ≤ n → most_from k n ≤ left → (k < 6) × ((6 - (k + 1)) * (6 - k) ≤ left)
-clear_fits k {n} l h p = (ltb→lt k 6 l, omega (arith, most_split k n (ltb→lt k 6 l) h))
-
--- the columns from k on make w of rows m, whatever was counted before: `left` is that with the most that is still to come
-abbrev pub Makes : ℕ → ℕ → Float → List Float → ℕ → Reduced → Type 0
-Makes k n limit m left w = (u : ℕ) → u + most_from k n ≡ left → w ≡ from_in k n limit (reduced true m u)
-
--- column k is behind, with rows t and so much still left: what the columns after it make of these, it and they make of m
-pub record Onward (k n : ℕ) (limit : Float) (m : List Float) (left : ℕ) (t : List Float) (still : ℕ) : Type 0 where
-  pub fits : most_from k n ≤ left → most_from (k + 1) n ≤ still
-  pub makes : (w : Reduced) → Makes (k + 1) n limit t still w → Makes k n limit m left w
-
 module _ (k n : ℕ) (limit : Float) where
   -- one column where the system has it
   abbrev turn : ℕ → Reduced → Reduced
@@ -277,53 +263,87 @@ module _ (k n : ℕ) (limit : Float) where
   unfolding from_in
   one_column s l = again turn k 6 l refl refl
 
-  raised : (m : List Float) (u : ℕ) {t : Room} → T (ltb k 6) → 6 - k ≤ n → t ≡ raised_in limit k (pivot_in k m) m → from_in (k + 1) n limit (cleared_in k t u) ≡ from_in k n limit (reduced true m u)
-  unfolding column_in
-  raised m u l h e = ap (from_in (k + 1) n limit) (if_true _ (le-leb 6 (n + k) (omega arith)) (ap (λ (s : Room). cleared_in k s u) e)) ∙ one_column (reduced true m u) (ltb→lt k 6 l)
-
-  -- the pivot refuses: nothing more is counted
-  pub stopped : (m : List Float) {t : List Float} {r : Bool} (left : ℕ) → T (ltb k 6) → 6 - k ≤ n → room r t ≡ raised_in limit k (pivot_in k m) m → not r ≡ true → Makes k n limit m left (reduced false t (left - most_of (6 - k)))
-  unfolding from_in column_in cleared_in
-  stopped m {t} {r} left l h e f u b =
-      ap (reduced false t) (ap₂ ◌-◌ (sym b) (sym (most_here k n h)) ∙ add-sub_cancel u (most_from k n))
-      ∙ halted turn (k + 1) 6 (λ j. cond_same (leb 6 (n + j))) (ap (λ (c : Bool). from_in (k + 1) n limit (cleared_in k (room c t) u)) (sym (not-true r f)) ∙ raised m u l h e)
-
-module _ (k : ℕ) {n : ℕ} {limit : Float} {m : List Float} {left : ℕ} {t : List Float} {still : ℕ} where
-  -- the pivot is brought up, and the rows below it are cleared
-  pub cleared : {r : Bool} {p q : List Float} {v : ℕ} → T (ltb k 6) → 6 - k ≤ n → room r p ≡ raised_in limit k (pivot_in k m) m → not r ≡ false
-      → ((u rest : ℕ) → u + (6 - (k + 1)) * (6 - k) + rest ≡ left → (reduced true q (v - rest) ≡ clear_in k (reduced true p u)) × (rest ≤ v)) → t ≡ q → still ≡ v → Onward k n limit m left t still
-  unfolding cleared_in
-  cleared {r} {p} {q} {v} l h e f g c d =
-      let next : ℕ = most_from (k + 1) n in
-      let split : (u : ℕ) → u + most_from k n ≡ left → u + (6 - (k + 1)) * (6 - k) + next ≡ left = λ u b. omega (arith, most_split k n (ltb→lt k 6 l) h) in
-      rw (c, d)
-      (record {
-        fits = λ a. (g (left - most_from k n) next (split (left - most_from k n) (sub-add_cancel a))).1;
-        makes = λ w z u b.
-            let y = g u next (split u b) in
-            z (v - next) (sub-add_cancel y.1) ∙ ap (from_in (k + 1) n limit) (y.0 ∙ ap (λ (c : Bool). cleared_in k (room c p) u) (sym (not-false r f))) ∙ raised k n limit m u l h e;
-      })
-
-  -- or the system has not the column
-  pub left_out : n < 6 - k → t ≡ m → still ≡ left → Onward k n limit m left t still
-  left_out h d e =
+  -- the system has not the column
+  pub left_out : (m : List Float) (left : ℕ) → k < 6 → n < 6 - k → from_in (k + 1) n limit (reduced true m (left - most_from (k + 1) n)) ≡ from_in k n limit (reduced true m (left - most_from k n))
+  left_out m left l h =
       let z : most_from (k + 1) n ≡ most_from k n = ap most_of (omega arith) in
-      rw (d, e)
-      (record {
-        fits = λ p. omega (arith, z);
-        makes = λ w g u b. g u (ap (λ (x : ℕ). u + x) z ∙ b) ∙ ap (from_in (k + 1) n limit) (if_false _ (lt-leb 6 (n + k) (omega arith)) refl) ∙ one_column k n limit (reduced true m u) (omega arith);
-      })
+      rw z (ap (from_in (k + 1) n limit) (if_false _ (lt-leb 6 (n + k) (omega arith)) refl) ∙ one_column (reduced true m (left - most_from k n)) l)
 
--- the last column: its pivot is in its place, and nothing is below it
-pub last_column : (n : ℕ) (limit : Float) (m : List Float) {x : Float} (left : ℕ) → 1 ≤ n → x ≡ unsigned_of (at m 45) → Makes 5 n limit m left (reduced (not (le x limit)) m left)
-unfolding from_in turns column_in raised_in pivot_in cleared_in clear_in
-last_column n limit m {x} left h e u b =
-    let here : 6 ≤ n + 5 = omega arith in
-    let none : left ≡ u = omega (arith, most_here 5 n h) in
-    ap (reduced (not (le x limit)) m) none
-    ∙ if_true _ (le-leb 6 (n + 5) here)
-    (go (le x limit) ∙ ap (λ (b : Bool). cleared_in 5 (cond b (room false m) (room true (swap_in 5 5 m))) u) (ap (λ (x : Float). le x limit) e ∙ le_unsigned (at m 45) limit))
-  where
-    go : (b : Bool) → reduced (not b) m u ≡ cleared_in 5 (cond b (room false m) (room true (swap_in 5 5 m))) u
-    go true = refl
-    go false = ap (λ (t : List Float). reduced true t u) (swap_self m 5 5 refl)
+  -- the pivot in row p, of magnitude x, is tested
+  module _ (m : List Float) {p : ℕ} {x : Float} (l : k < 6) (h : 6 - k ≤ n) (e : p ≡ pivot_in k m) (f : x ≡ unsigned_of (spot m p k)) where
+    raised : (t : Bool) (u : ℕ) → le x limit ≡ t → from_in (k + 1) n limit (cleared_in k (cond t (room false m) (room true (swap_in k p m))) u) ≡ from_in k n limit (reduced true m u)
+    unfolding column_in raised_in
+    raised t u g =
+        let test : t ≡ le (abs_of (spot m p k)) limit = sym g ∙ ap (λ (x : Float). le x limit) f ∙ le_unsigned (spot m p k) limit in
+        ap (from_in (k + 1) n limit) (
+        if_true _ (le-leb 6 (n + k) (omega arith))
+        (ap (λ (t : Bool). cleared_in k (cond t (room false m) (room true (swap_in k p m))) u) test ∙ ap (λ (p : ℕ). cleared_in k (raised_in limit k p m) u) e)
+        )
+        ∙ one_column (reduced true m u) l
+
+    -- it refuses: nothing more is counted
+    pub stopped : (left : ℕ) → le x limit ≡ true → from_in (k + 1) n limit (reduced false m (left - most_of (6 - k))) ≡ from_in k n limit (reduced true m (left - most_from k n))
+    unfolding cleared_in
+    stopped left g = ap (λ (c : ℕ). from_in (k + 1) n limit (reduced false m (left - c))) (sym (most_here k n h)) ∙ raised true (left - most_from k n) g
+
+    -- it is brought up, and the rows below it are cleared
+    pub cleared : {left v : ℕ} {q t : List Float} → le x limit ≡ false → t ≡ swap_in k p m → most_from k n ≤ left
+        → ((u rest : ℕ) → u + (6 - (k + 1)) * (6 - k) + rest ≡ left → (reduced true q (v - rest) ≡ clear_in k (reduced true t u)) × (rest ≤ v))
+        → (from_in (k + 1) n limit (reduced true q (v - most_from (k + 1) n)) ≡ from_in k n limit (reduced true m (left - most_from k n))) × (most_from (k + 1) n ≤ v)
+    unfolding cleared_in
+    cleared {left} {v} {q} {t} g s a c =
+        let u : ℕ = left - most_from k n in
+        let y = c u (most_from (k + 1) n) (omega (arith, most_split k n l h, sub-add_cancel a)) in
+        (ap (from_in (k + 1) n limit) (y.0 ∙ ap (λ (t : List Float). clear_in k (reduced true t u)) s) ∙ raised false u g, y.1)
+
+-- what is refused is passed on by the columns that are left
+pub stays : (k n : ℕ) (limit : Float) (m : List Float) (u : ℕ) → reduced false m u ≡ from_in k n limit (reduced false m u)
+unfolding from_in column_in
+stays k n limit m u = halted _ k 6 (λ j. cond_same (leb 6 (n + j))) refl
+
+-- before the first column nothing is counted
+pub begun : (n : ℕ) (limit : Float) (m : List Float) {left : ℕ} → n ≤ 6 → left ≡ most_of n → from_in 0 n limit (reduced true m (left - most_from 0 n)) ≡ from_in 0 n limit (reduced true m 0)
+begun n limit m {left} l e =
+    let six : most_from 0 n ≡ most_of n = ap most_of (omega arith) in
+    let none : left - most_from 0 n ≡ 0 = omega (arith, e, six) in
+    ap (λ (u : ℕ). from_in 0 n limit (reduced true m u)) none
+
+-- after the last one nothing is left
+pub over : (n : ℕ) (limit : Float) (r : Result ℕ ℕ) (m : List Float) → eliminated r m ≡ from_in 6 n limit (counted 6 n r m)
+unfolding from_in turns
+over n limit (Ok left) m =
+    let zero : min n (6 - 6) ≡ 0 = omega arith in
+    let none : most_from 6 n ≡ 0 = ap most_of zero in
+    let all : left ≡ left - most_from 6 n = omega (arith, none) in
+    ap (reduced true m) all
+over n limit (Err updates) m = refl
+
+-- ---- the substitution back, from a row up
+
+module _ (row n : ℕ) (m : List Float) where
+  -- the system has not the row
+  pub row_left_out : (s : Room) → row < 6 → n < 6 - row → back_from (6 - row) n m s ≡ back_from (5 - row) n m s
+  row_left_out s l h = sym (ended _ (6 - row) n (omega arith) refl) ∙ ended _ (5 - row) n (omega arith) refl
+
+  abbrev pub over_diagonal : Float → Float
+  over_diagonal tail = (spot m row 6 -f tail) /f spot m row row
+
+  -- its unknown is put in its place, and refuses where it is not finite
+  pub row_known : (x : List Float) {tail : Float} {ok : Bool} → row < 6 → 6 - row ≤ n → tail ≡ tail_in m x row → ok ≡ finite (over_diagonal tail)
+      → back_from (6 - row) n m (room ok (set x row (over_diagonal tail))) ≡ back_from (5 - row) n m (room true x)
+  unfolding back_row_in
+  row_known x {tail} {ok} l h e f =
+      let here : row ≡ 5 - (5 - row) = omega arith in
+      let next : 6 - row ≡ 5 - row + 1 = omega arith in
+      let step = ap (λ (ok : Bool). room ok (set x row (over_diagonal tail))) f ∙ ap (λ (t : Float). room (finite (over_diagonal t)) (set x row (over_diagonal t))) e in
+      ap (λ (k : ℕ). back_from k n m (room ok (set x row (over_diagonal tail)))) next
+      ∙ again _ (5 - row) n (omega arith) (step ∙ ap (λ (r : ℕ). back_row_in m r (room true x)) here) refl
+
+-- what is refused is passed on
+pub back_refused : (k n : ℕ) (m x : List Float) {w : Room} → back_from k n m (room false x) ≡ w → w.ok ≡ false
+unfolding back_row_in
+back_refused k n m x e = sym (ap (λ (s : Room). s.ok) (halted _ k n (λ j. refl) e))
+
+-- no row is left
+pub back_known : (n : ℕ) (m x : List Float) {w : Room} → n ≤ 6 → back_from 6 n m (room true x) ≡ w → room true x ≡ w
+back_known n m x l e = ended _ 6 n l e

@@ -10,10 +10,10 @@ use lib.Dec.{ltb, leb}
 use borrow.Author.Tests.{le-leb, ltb-true, leb-true}
 use Rattle.laws.specs.Loop.{turns}
 use Rattle.laws.specs.Floats.{+0, ◌*f◌, finite, positive}
-use Rattle.laws.proofs.Choices.{both, false_true, if_true, if_false}
+use Rattle.laws.proofs.Choices.{both, false_true, cond_test, if_true, if_false}
 use Rattle.solver.specs.declared.Solved.{Solved}
 use Rattle.solver.specs.Solve.{standing, refused, scale_of, eliminated_of, back_if, solved_at_scale, solve_of}
-use Rattle.solver.specs.Rows.{Room, room, solved_in, updates_in, placed_of, front_of}
+use Rattle.solver.specs.Rows.{Room, room, solved_in, updates_in, placed_of, front_of, answer_of}
 use Rattle.solver.proofs.Views.{Found}
 use Rattle.solver.proofs.Solutions.{eliminated_sound}
 use Rattle.solver.proofs.Placed.{placed_stands, placed_length, first_found, none_found}
@@ -78,3 +78,13 @@ module _ (n : ℕ) (m rhs : List Float) (limit : Float) (sizes : (1 ≤ n) × (n
   -- the rows were not solved
   pub refuses : (t x : List Float) (r : Bool) (u : ℕ) → t ≡ placed_of n m rhs → (room r x ≡ solved_in n limit t (replicate 6 +0)) × (u ≡ updates_in n limit t) → r ≡ false → refused u ≡ answer
   refuses t x r u p q h = ap refused (as_many t u p q.1) ∙ none_found n answer (eliminated_sound n _ sizes.1) ((found t (room r x) p q.0).same ∙ h)
+
+  -- the answer that the code makes of the rows
+  pub answered : (t : List Float) → t ≡ placed_of n m rhs → answer_of n limit t ≡ answer
+  unfolding answer_of
+  answered t p =
+      let s = solved_in n limit t (replicate 6 +0) in
+      let u = updates_in n limit t in
+      cond_test (λ a. a ≡ answer) s.ok
+      (λ h. accepts t s.m (front_of n s.m) s.ok u p (refl, refl) h refl)
+      (λ h. refuses t s.m s.ok u p (refl, refl) h)

@@ -1,11 +1,12 @@
 -- The elimination as the code does it. No reader has to believe this: no public contract cites it, and proofs/Same and proofs/Whole show that its answers are those of Solve. Definitions only.
 -- Six rows of eight numbers, in which a system of n unknowns stands in the last n rows and columns, with its right side in column 6 of each row; column 7 is not used.
-use Rattle.std.specs.Prelude.{◌≡◌, Bool, true, false, cond, List, ℕ, ◌+◌, ◌-◌, ◌*◌, ◌/◌, min, leb, set, replicate, Float}
+use Rattle.std.specs.Prelude.{◌≡◌, Bool, true, false, cond, List, ℕ, ◌+◌, ◌-◌, ◌*◌, ◌/◌, min, leb, set, replicate, Float, Result, Ok, Err}
 use Rattle.std.specs.Float.Ieee.{lt, le, eq, is_nan}
 use Rattle.laws.specs.Loop.{for}
 use Rattle.laws.specs.Choice.{unless}
 use Rattle.laws.specs.Floats.{◌+f◌, ◌-f◌, ◌*f◌, ◌/f◌, +0, at, abs_of, finite}
-use Rattle.solver.specs.Solve.{ranked, exchange}
+use Rattle.solver.specs.declared.Solved.{Solved}
+use Rattle.solver.specs.Solve.{ranked, exchange, refused}
 
 -- a number that is not below zero: what a scale is, from its first step on
 pub record NotBelowZero (a : Float) : Type 0 where
@@ -80,6 +81,16 @@ most_of n = n * (n * n - 1) / 3
 abbrev pub most_from : ℕ → ℕ → ℕ
 most_from k n = most_of (min n (6 - k))
 
+-- rows m, where what the code hands on is a count with all that the columns from k on may still take, and what it refuses with is the count itself
+abbrev pub counted : ℕ → ℕ → Result ℕ ℕ → List Float → Reduced
+counted k n (Ok left) m = reduced true m (left - most_from k n)
+counted k n (Err updates) m = reduced false m updates
+
+-- rows m with the count of the whole elimination, or up to its refusal
+abbrev pub eliminated : Result ℕ ℕ → List Float → Reduced
+eliminated (Ok updates) m = reduced true m updates
+eliminated (Err updates) m = reduced false m updates
+
 -- ---- the unknowns, from the last row up, each in its row's place of x
 
 unfoldable pub tail_in : List Float → List Float → ℕ → Float
@@ -94,6 +105,10 @@ back_row_in m row s = cond s.ok (room (finite (value_in m s.m row)) (set s.m row
 
 unfoldable pub back_in : ℕ → List Float → List Float → Room
 back_in n m x = for 0 n (λ k s. back_row_in m (5 - k) s) (room true x)
+
+-- what is left of it where k unknowns are known
+abbrev pub back_from : ℕ → ℕ → List Float → Room → Room
+back_from k n m s = for k n (λ k s. back_row_in m (5 - k) s) s
 
 -- ---- the whole: what is left in the room of the unknowns, and the updates
 
@@ -116,3 +131,10 @@ placed_of n m rhs = for 0 n (λ i t. set (placed_row n m i t) ((6 - n + i) * 8 +
 
 unfoldable pub front_of : ℕ → List Float → List Float
 front_of n x = for 0 n (λ i r. set r i (at x (6 - n + i))) (replicate 6 +0)
+
+-- ---- the answer of a system in its rows
+
+unfoldable pub answer_of : ℕ → Float → List Float → Solved
+answer_of n limit m =
+    let s = solved_in n limit m (replicate 6 +0) in
+    unless s.ok (refused (updates_in n limit m)) (record { ok = true; x = front_of n s.m; updates = updates_in n limit m })

@@ -7,9 +7,10 @@ mod rows;
 ghost use Rattle.std.specs.Prelude.{◌≡◌, ◌+◌, ◌≤◌, ◌<◌};
 ghost use Rattle.laws.specs.Floats.{+0};
 ghost use Rattle.solver.specs.Solve.{refused, row_scale_of, scale_of, under_of, solve_of};
-ghost use Rattle.solver.specs.Rows.{NotBelowZero, placed_row, placed_of, front_of};
+ghost use Rattle.solver.specs.Rows.{NotBelowZero, placed_row, placed_of, front_of, answer_of};
 
-// The unknowns, and whether there is a solution; what is no unknown is 0. The six numbers come first: behind the bool they would be copied from an odd address.
+// The unknowns, and whether there is a solution; what is no unknown is 0.
+// Stays: a public type, which `solve_of`, `under_of` and the theorems about them read as a record with `ok`. The six numbers come first: behind the bool they would be copied from an odd address.
 // `updates` is how many entries of the matrix the elimination as defined updates, also one that is refused: it is the same whichever way the code takes.
 #[derive(Clone, Copy)]
 pub struct Solved {
@@ -22,21 +23,18 @@ pub struct Solved {
 fn quiet(x: f64) -> f64
     ensures { result ≡ x }
 {
-    if x != x {
-        return 0.0 / 0.0;
-    }
-    x
+    if x.is_nan() { f64::NAN } else { x }
 }
 
+// Stays: `n ≤ 6` in the contracts below. With a type of its own for a size each of their lines would have a field in place of n, and each caller a match.
 // The largest magnitude of a row, from +0 on: no row waits for the one before. A -0 is not above +0, so its sign may stay.
 fn row_scale(m: &[f64; 36], n: usize, i: usize) -> f64
     requires { (n ≤ 6) × (i < 6) }
     ensures { (result ≡ row_scale_of n m.now i +0) × NotBelowZero result }
 {
     let mut acc = 0.0;
-    for j in 0..n {
-        let k = i * 6 + j;
-        acc = bits::larger(acc, bits::unsigned(quiet(m[k])));
+    for x in &m[i * 6..i * 6 + n] {
+        acc = bits::larger(acc, bits::unsigned(quiet(*x)));
     }
     acc
 }
@@ -46,6 +44,7 @@ fn scale_of(m: &[f64; 36], n: usize) -> f64
     ensures { result ≡ scale_of n m.now }
 {
     let mut acc = 0.0;
+    // Stays: `chunks_exact(6).take(n)` would give rows of six, of which n numbers count.
     for i in 0..n {
         acc = bits::larger(acc, row_scale(m, n, i));
     }
@@ -57,6 +56,7 @@ fn place_row(t: &mut [f64; 48], m: &[f64; 36], n: usize, i: usize)
     requires { (n ≤ 6) × (i < n) }
     ensures { t.new ≡ placed_row n m.now i t.old }
 {
+    // Stays: with `copy_from_slice` a cell of all faces takes 72 % more instructions, since `solve_under` is then no part of its callers.
     for j in 0..n {
         let k = (6 - n + i) * 8 + (6 - n + j);
         let l = i * 6 + j;
@@ -70,6 +70,7 @@ fn place(m: &[f64; 36], rhs: &[f64; 6], n: usize) -> [f64; 48]
     ensures { result ≡ placed_of n m.now rhs.now }
 {
     let mut t = [0.0; 48];
+    // Stays: i is a row of the matrix, of the right side and of what is written.
     for i in 0..n {
         place_row(&mut t, m, n, i);
         let k = (6 - n + i) * 8 + 6;
@@ -78,33 +79,13 @@ fn place(m: &[f64; 36], rhs: &[f64; 6], n: usize) -> [f64; 48]
     t
 }
 
-// The same. Each size of a face has a call of its own, so that the compiler writes its loops out.
-fn laid(m: &[f64; 36], rhs: &[f64; 6], n: usize) -> [f64; 48]
-    requires { n ≤ 6 }
-    ensures { result ≡ placed_of n m.now rhs.now }
-{
-    if n == 3 {
-        return place(m, rhs, 3);
-    }
-    if n == 4 {
-        return place(m, rhs, 4);
-    }
-    if n == 5 {
-        return place(m, rhs, 5);
-    }
-    place(m, rhs, n)
-}
-
 // The last n of six numbers, first.
 fn first(x: &[f64; 6], n: usize) -> [f64; 6]
     requires { n ≤ 6 }
     ensures { result ≡ front_of n x.now }
 {
     let mut r = [0.0; 6];
-    for i in 0..n {
-        let k = 6 - n + i;
-        r[i] = x[k];
-    }
+    r[..n].copy_from_slice(&x[6 - n..]);
     r
 }
 
@@ -115,52 +96,48 @@ fn refused(updates: usize) -> Solved
     Solved {
         x: [0.0; 6],
         ok: false,
-        updates: updates,
+        updates,
+    }
+}
+
+// The answer of a system in its rows, in its caller's code, which knows the size.
+#[inline(always)]
+fn answer(t: &mut [f64; 48], n: usize, limit: f64) -> Solved
+    requires { (1 ≤ n) × (n ≤ 6) }
+    ensures { result ≡ answer_of n limit t.old }
+{
+    let s = rows::solve_rows(t, n, limit);
+    match s.x {
+        Some(x) => Solved {
+            x: first(&x, n),
+            ok: true,
+            updates: s.updates,
+        },
+        None => refused(s.updates),
     }
 }
 
 // m x = rhs in n unknowns, or a refusal: a size other than 1 to 6 (no updates), a pivot of at most the limit, or a value that is not finite.
-// Where a caller names the size, the compiler writes the system to its rows without a copy; `solve_rows`, which has two callers, stays one piece of code.
+// Where a caller names the size, the compiler writes the system to its rows without a copy; `solve_rows` stays one piece of code.
 pub fn solve_under(m: [f64; 36], rhs: [f64; 6], n: usize, limit: f64) -> Solved
     ensures { result ≡ under_of n m rhs limit }
 {
-    if (0 < n) & (n <= 6) {
-        let mut t = place(&m, &rhs, n);
-        let mut x = [0.0; 6];
-        let all = rows::most(n);
-        let mut updates = 0;
-        if rows::solve_rows(&mut t, n, limit, &mut x, all, &mut updates) {
-            return Solved {
-                x: first(&x, n),
-                ok: true,
-                updates,
-            };
-        }
-        return refused(updates);
+    if !((0 < n) & (n <= 6)) {
+        return refused(0);
     }
-    refused(0)
+    answer(&mut place(&m, &rhs, n), n, limit)
 }
 
 // The same with a limit of tol times the scale. Refused are n above 6 and no positive finite scale (no updates), a pivot of at most the limit, and a value that is not finite.
 pub fn solve(m: [f64; 36], rhs: [f64; 6], n: usize, tol: f64) -> Solved
     ensures { result ≡ solve_of n m rhs tol }
 {
-    if n <= 6 {
-        let scale = scale_of(&m, n);
-        if bits::is_finite(scale) & (scale > 0.0) {
-            let mut t = laid(&m, &rhs, n);
-            let mut x = [0.0; 6];
-            let all = rows::most(n);
-            let mut updates = 0;
-            if rows::solve_rows(&mut t, n, tol * scale, &mut x, all, &mut updates) {
-                return Solved {
-                    x: first(&x, n),
-                    ok: true,
-                    updates,
-                };
-            }
-            return refused(updates);
-        }
+    if 6 < n {
+        return refused(0);
     }
-    refused(0)
+    let scale = scale_of(&m, n);
+    if !bits::is_positive(scale) {
+        return refused(0);
+    }
+    answer(&mut place(&m, &rhs, n), n, tol * scale)
 }

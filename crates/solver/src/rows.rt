@@ -1,8 +1,16 @@
 // The elimination, in six rows of eight numbers: six columns, the right side, and one that is not used. A system of n unknowns stands in the LAST n rows and columns,
 // so that each column is at a place that the compiler knows, whatever the size: it writes every column's loops out, two numbers at a time.
-ghost use Rattle.std.specs.Prelude.{◌≡◌, true, ℕ, ◌+◌, ◌-◌, ◌*◌, ◌≤◌, ◌<◌};
-ghost use Rattle.laws.specs.Floats.{◌/f◌};
-ghost use Rattle.solver.specs.Rows.{spot, room, reduced, pivot_in, swap_in, row_in, clear_in, raised_in, from_in, most_of, most_from, tail_in, back_row_in, back_in, solved_in, updates_in};
+ghost use Rattle.std.specs.Prelude.{◌≡◌, true, false, ℕ, ◌+◌, ◌-◌, ◌*◌, ◌≤◌, ◌<◌, replicate, IfOk, MatchOption};
+ghost use Rattle.std.specs.Option.{is_some};
+ghost use Rattle.laws.specs.Floats.{◌/f◌, +0};
+ghost use Rattle.solver.specs.Rows.{spot, room, reduced, counted, eliminated, pivot_in, swap_in, row_in, clear_in, from_in, most_of, most_from, tail_in, back_in, back_from, solved_in, updates_in};
+
+// A system's unknowns in the last places of six numbers, where it has any, and how many entries its elimination updates.
+#[derive(Clone, Copy)]
+pub(crate) struct Unknowns {
+    pub(crate) x: Option<[f64; 6]>,
+    pub(crate) updates: usize,
+}
 
 // The row from `col` on with the largest magnitude in its column: the last of equal ones, and a NaN is above all.
 // Two jumps, each mostly one way, let the processor go on with the row that it expects.
@@ -12,12 +20,13 @@ fn pivot(m: &[f64; 48], col: usize) -> usize
 {
     let mut p = col;
     let mut top = bits::unsigned(m[col * 8 + col]);
+    // Stays: the index is what is looked for, and a column of rows in one array is no slice.
     for i in col + 1..6 {
         let size = bits::unsigned(m[i * 8 + col]);
         if top <= size {
             p = i;
             top = size;
-        } else if size != size {
+        } else if size.is_nan() {
             p = i;
             top = size;
         }
@@ -34,25 +43,8 @@ fn swap(m: &mut [f64; 48], a: usize, b: usize)
         return;
     }
     for j in a..7 {
-        let k = a * 8 + j;
-        let l = b * 8 + j;
-        let v = m[k];
-        m[k] = m[l];
-        m[l] = v;
+        m.swap(a * 8 + j, b * 8 + j);
     }
-}
-
-// The pivot is found, tested and brought up. False refuses.
-fn raise(m: &mut [f64; 48], limit: f64, col: usize) -> bool
-    requires { col < 6 }
-    ensures { room result m.new ≡ raised_in limit col (pivot_in col m.old) m.old }
-{
-    let p = pivot(m, col);
-    if bits::unsigned(m[p * 8 + col]) <= limit {
-        return false;
-    }
-    swap(m, col, p);
-    true
 }
 
 // A row less its factor times the pivot's row, from the next column on: its own column is not looked at again, but the definition updates it, so it counts.
@@ -65,10 +57,11 @@ fn less(m: &mut [f64; 48], col: usize, row: usize, left: usize) -> usize
     if factor == 0.0 {
         return left - (6 - col);
     }
+    // Stays: a row is written from another of the same array, and nothing is known of what a `zip` of `iter_mut` writes.
     for j in col + 1..7 {
         let k = row * 8 + j;
         let l = col * 8 + j;
-        m[k] = m[k] - factor * m[l];
+        m[k] -= factor * m[l];
     }
     left
 }
@@ -84,89 +77,50 @@ fn clear(m: &mut [f64; 48], col: usize, left: usize) -> usize
     now_left
 }
 
-// The last column: its pivot is tested, and nothing is below it.
-fn from_5(m: &mut [f64; 48], n: usize, limit: f64, left: usize, updates: &mut usize) -> bool
-    requires { 1 ≤ n }
-    ensures { (u : ℕ) → u + most_from 5 n ≡ left → reduced result m.new updates.new ≡ from_in 5 n limit (reduced true m.old u) }
+// How many entries an elimination of n unknowns updates where no factor is zero.
+fn most(n: usize) -> usize
+    requires { (1 ≤ n) × (n ≤ 6) }
+    ensures { result ≡ most_of n }
 {
-    *updates = left;
-    !(bits::unsigned(m[45]) <= limit)
+    n * (n * n - 1) / 3
 }
 
-// Each column where the system has it, then the rest. Each of these is called once, so that all of them become one piece of code. What is refused has none of the updates of the columns that are left.
-fn from_4(m: &mut [f64; 48], n: usize, limit: f64, left: usize, updates: &mut usize) -> bool
-    requires { (1 ≤ n) × (most_from 4 n ≤ left) }
-    ensures { (u : ℕ) → u + most_from 4 n ≡ left → reduced result m.new updates.new ≡ from_in 4 n limit (reduced true m.old u) }
+// Stays: the rows, n and the limit are parameters of their own. In a struct lent by `&mut` each contract would have to say besides that n and the limit stay as they are.
+// One column, where the system has it: its pivot is found, tested and brought up, and the rows below it are cleared. What is left of the count goes on; a pivot of at most the limit refuses, and its count is
+// without the updates of the columns that are left. The column is a const parameter, so that each has code of its own, with every place known.
+fn column<const COL: usize>(
+    m: &mut [f64; 48],
+    n: usize,
+    limit: f64,
+    left: usize,
+) -> Result<usize, usize>
+    requires { (COL < 6) × (1 ≤ n) × (most_from COL n ≤ left) }
+    ensures rows { from_in (COL + 1) n limit (counted (COL + 1) n result m.new) ≡ from_in COL n limit (reduced true m.old (left - most_from COL n)) }
+    ensures fits { IfOk result (λ still. most_from (COL + 1) n ≤ still) }
 {
-    let mut now_left = left;
-    if 2 <= n {
-        if !raise(m, limit, 4) {
-            *updates = left - 2;
-            return false;
-        }
-        now_left = clear(m, 4, left);
+    if n < 6 - COL {
+        return Ok(left);
     }
-    from_5(m, n, limit, now_left, updates)
+    let p = pivot(m, COL);
+    if bits::unsigned(m[p * 8 + COL]) <= limit {
+        return Err(left - most(6 - COL));
+    }
+    swap(m, COL, p);
+    Ok(clear(m, COL, left))
 }
 
-fn from_3(m: &mut [f64; 48], n: usize, limit: f64, left: usize, updates: &mut usize) -> bool
-    requires { (1 ≤ n) × (most_from 3 n ≤ left) }
-    ensures { (u : ℕ) → u + most_from 3 n ≡ left → reduced result m.new updates.new ≡ from_in 3 n limit (reduced true m.old u) }
+// The six columns in turn: how many entries were updated, also up to a refusal.
+// Stays: a call for each column, as for each row in `back`, where a loop takes 17 % more instructions in a cell of all faces.
+fn eliminate(m: &mut [f64; 48], n: usize, limit: f64) -> Result<usize, usize>
+    requires { (1 ≤ n) × (n ≤ 6) }
+    ensures { eliminated result m.new ≡ from_in 0 n limit (reduced true m.old 0) }
 {
-    let mut now_left = left;
-    if 3 <= n {
-        if !raise(m, limit, 3) {
-            *updates = left - 8;
-            return false;
-        }
-        now_left = clear(m, 3, left);
-    }
-    from_4(m, n, limit, now_left, updates)
-}
-
-fn from_2(m: &mut [f64; 48], n: usize, limit: f64, left: usize, updates: &mut usize) -> bool
-    requires { (1 ≤ n) × (most_from 2 n ≤ left) }
-    ensures { (u : ℕ) → u + most_from 2 n ≡ left → reduced result m.new updates.new ≡ from_in 2 n limit (reduced true m.old u) }
-{
-    let mut now_left = left;
-    if 4 <= n {
-        if !raise(m, limit, 2) {
-            *updates = left - 20;
-            return false;
-        }
-        now_left = clear(m, 2, left);
-    }
-    from_3(m, n, limit, now_left, updates)
-}
-
-fn from_1(m: &mut [f64; 48], n: usize, limit: f64, left: usize, updates: &mut usize) -> bool
-    requires { (1 ≤ n) × (most_from 1 n ≤ left) }
-    ensures { (u : ℕ) → u + most_from 1 n ≡ left → reduced result m.new updates.new ≡ from_in 1 n limit (reduced true m.old u) }
-{
-    let mut now_left = left;
-    if 5 <= n {
-        if !raise(m, limit, 1) {
-            *updates = left - 40;
-            return false;
-        }
-        now_left = clear(m, 1, left);
-    }
-    from_2(m, n, limit, now_left, updates)
-}
-
-fn from_0(m: &mut [f64; 48], n: usize, limit: f64, left: usize, updates: &mut usize) -> bool
-    requires { (1 ≤ n) × (most_from 0 n ≤ left) }
-    ensures { (u : ℕ) → u + most_from 0 n ≡ left → reduced result m.new updates.new ≡ from_in 0 n limit (reduced true m.old u) }
-{
-    let mut now_left = left;
-    if 6 <= n {
-        if !raise(m, limit, 0) {
-            *updates = left - 70;
-            return false;
-        }
-        now_left = clear(m, 0, left);
-    }
-    from_1(m, n, limit, now_left, updates)
+    let left = column::<0>(m, n, limit, most(n))?;
+    let left = column::<1>(m, n, limit, left)?;
+    let left = column::<2>(m, n, limit, left)?;
+    let left = column::<3>(m, n, limit, left)?;
+    let left = column::<4>(m, n, limit, left)?;
+    column::<5>(m, n, limit, left)
 }
 
 fn tail(m: &[f64; 48], x: &[f64; 6], row: usize) -> f64
@@ -174,98 +128,55 @@ fn tail(m: &[f64; 48], x: &[f64; 6], row: usize) -> f64
     ensures { result ≡ tail_in m.now x.now row }
 {
     let mut tail = 0.0;
+    // Stays: a `zip` of two ranges would begin at row * 9 + 1 in the one and at row + 1 in the other.
     for j in row + 1..6 {
-        tail = tail + m[row * 8 + j] * x[j];
+        tail += m[row * 8 + j] * x[j];
     }
     tail
 }
 
-// The unknown of a row; false where it is not finite.
-fn value(m: &[f64; 48], x: &mut [f64; 6], row: usize) -> bool
-    requires { row < 6 }
-    ensures { room result x.new ≡ back_row_in m.now row (room true x.old) }
+// The unknown of a row, where the system has it: one that is not finite refuses. The row is a const parameter, as the column is.
+#[tactic(auto, using(crate::proofs::Steps::row_left_out, crate::proofs::Steps::row_known))]
+fn unknown<const ROW: usize>(m: &[f64; 48], n: usize, x: &mut [f64; 6]) -> Option<()>
+    requires { ROW < 6 }
+    ensures { back_from (6 - ROW) n m.now (room (is_some result) x.new) ≡ back_from (5 - ROW) n m.now (room true x.old) }
 {
-    let v = (m[row * 8 + 6] - tail(m, x, row)) / m[row * 8 + row];
-    x[row] = v;
-    bits::is_finite(v)
+    if n < 6 - ROW {
+        return Some(());
+    }
+    let v = (m[ROW * 8 + 6] - tail(m, x, ROW)) / m[ROW * 8 + ROW];
+    x[ROW] = v;
+    if bits::is_finite(v) { Some(()) } else { None }
 }
 
 // The unknowns from the last up.
-fn back(m: &[f64; 48], n: usize, x: &mut [f64; 6]) -> bool
-    requires { (1 ≤ n) × (n ≤ 6) }
-    ensures { room result x.new ≡ back_in n m.now x.old }
+fn back(m: &[f64; 48], n: usize) -> Option<[f64; 6]>
+    requires { n ≤ 6 }
+    ensures { MatchOption result ((back_in n m.now (replicate 6 +0)).ok ≡ false) (λ x. room true x ≡ back_in n m.now (replicate 6 +0)) }
 {
-    if !value(m, x, 5) {
-        return false;
-    }
-    if n == 1 {
-        return true;
-    }
-    if !value(m, x, 4) {
-        return false;
-    }
-    if n == 2 {
-        return true;
-    }
-    if !value(m, x, 3) {
-        return false;
-    }
-    if n == 3 {
-        return true;
-    }
-    if !value(m, x, 2) {
-        return false;
-    }
-    if n == 4 {
-        return true;
-    }
-    if !value(m, x, 1) {
-        return false;
-    }
-    if n == 5 {
-        return true;
-    }
-    value(m, x, 0)
+    let mut x = [0.0; 6];
+    unknown::<5>(m, n, &mut x)?;
+    unknown::<4>(m, n, &mut x)?;
+    unknown::<3>(m, n, &mut x)?;
+    unknown::<2>(m, n, &mut x)?;
+    unknown::<1>(m, n, &mut x)?;
+    unknown::<0>(m, n, &mut x)?;
+    Some(x)
 }
 
-// How many entries an elimination of n unknowns updates where no factor is zero: n(n x n - 1)/3. A caller that names the size has it as a number in the code.
-pub(crate) fn most(n: usize) -> usize
+// The system of n unknowns in the last n rows and columns of m, its right side in column 6. A pivot of at most the limit refuses, and so does an unknown that is not finite.
+// One piece of code for all callers, which know the size.
+#[inline(never)]
+pub(crate) fn solve_rows(m: &mut [f64; 48], n: usize, limit: f64) -> Unknowns
     requires { (1 ≤ n) × (n ≤ 6) }
-    ensures { result ≡ most_of n }
+    ensures unknowns { MatchOption result.x ((solved_in n limit m.old (replicate 6 +0)).ok ≡ false) (λ x. room true x ≡ solved_in n limit m.old (replicate 6 +0)) }
+    ensures counted { result.updates ≡ updates_in n limit m.old }
 {
-    if n == 6 {
-        return 70;
+    match eliminate(m, n, limit) {
+        Ok(updates) => Unknowns {
+            x: back(m, n),
+            updates,
+        },
+        Err(updates) => Unknowns { x: None, updates },
     }
-    if n == 5 {
-        return 40;
-    }
-    if n == 4 {
-        return 20;
-    }
-    if n == 3 {
-        return 8;
-    }
-    if n == 2 {
-        return 2;
-    }
-    0
-}
-
-// The system of n unknowns in the last n rows and columns of m, its right side in column 6: its unknowns in the last n places of x, or false. A pivot of at most the limit refuses, and
-// so does an unknown that is not finite. `updates` is how many entries the definition updates on the way, of `all` where no factor is zero.
-pub(crate) fn solve_rows(
-    m: &mut [f64; 48],
-    n: usize,
-    limit: f64,
-    x: &mut [f64; 6],
-    all: usize,
-    updates: &mut usize,
-) -> bool
-    requires { (1 ≤ n) × (n ≤ 6) × (all ≡ most_of n) }
-    ensures { (room result x.new ≡ solved_in n limit m.old x.old) × (updates.new ≡ updates_in n limit m.old) }
-{
-    if from_0(m, n, limit, all, updates) {
-        return back(m, n, x);
-    }
-    false
 }

@@ -1,4 +1,7 @@
--- What a passed test says, lists of records, and the call of `copied` that every walk over a lent run begins with; M7 and M8.
+-- What a passed test says; what a refusal hands on; what a search says; what is read of an array; lists of records, and M7 and M8.
 pub mod Passed
+pub mod Handed
+pub mod Scans
+pub mod Fronts
 pub mod Padded
 pub mod Marked

@@ -1,7 +1,6 @@
 -- Lists of records, padded. Assumes nothing.
 use mathlib.Core.Path.{◌≡◌, refl, sym, ◌∙◌, ap}
-use Prim.Native.Nat.{ℕ, zero, suc, ◌+◌, ◌≤◌, ◌<◌, zero-le}
-use native.Mathlib.Nat.{le_of_suc-le-suc, not-suc-le-zero}
+use Prim.Native.Nat.{ℕ, zero, suc, ◌+◌, ◌<◌, zero-le}
 use native.Mathlib.Numerals.{add-one}
 use native.Mathlib.Omega.{arith}
 use mathlib.Core.Bool.{Bool, true, false}
@@ -35,9 +34,3 @@ push_is ys x = λ i. record { count = sym (length-append ys (x ∷ [])) i; recs 
 -- one more record of a list
 pub push_next : (xs : List SviSlice) (i : ℕ) → i < length xs → pushed (run_of (take i xs)) (get_or xs i no_slice) ≡ run_of (take (i + 1) xs)
 push_next xs i h = push_is (take i xs) (get_or xs i no_slice) ∙ ap run_of (rw (add-one, take-suc xs i no_slice))
-
-pub all_taken : (xs : List SviSlice) (i : ℕ) → length xs ≤ i → take i xs ≡ xs
-all_taken [] zero h = refl
-all_taken [] (suc i) h = refl
-all_taken (x ∷ xs) zero h = absurd (not-suc-le-zero h)
-all_taken (x ∷ xs) (suc i) h = ap (λ (l : List SviSlice). x ∷ l) (all_taken xs i (le_of_suc-le-suc h))

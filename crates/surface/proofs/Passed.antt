@@ -1,8 +1,8 @@
 -- What a passed test says of a run, and what a bracket says of its positions. Assumes nothing.
-use mathlib.Core.Path.{◌≡◌, refl, sym, ap, ap₂, ◌∙◌, subst}
+use mathlib.Core.Path.{◌≡◌, refl, sym, ◌∙◌}
 use mathlib.Core.Bool.{Bool, true, false, ◌||◌, cond}
 use mathlib.Core.List.{List}
-use Prim.Native.Nat.{ℕ, ◌≤◌, ◌<◌}
+use Prim.Native.Nat.{ℕ, ◌≤◌}
 use native.Mathlib.Omega.{arith}
 use lib.Dec.{ltb}
 use lib.Ieee.{Float}
@@ -10,18 +10,9 @@ use lib.ListN.{length}
 use borrow.Author.Tests.{ltb-false}
 use Rattle.laws.proofs.Choices.{passed_number}
 use Rattle.surface.specs.declared.types.Run.{Run}
-use Rattle.surface.specs.declared.types.ShortExpiryPolicy.{ShortExpiryPolicy}
-use Rattle.surface.specs.declared.types.Bracket.{Bracket}
-use Rattle.surface.specs.declared.types.Bracket.TheVariants.{Segment}
-use Rattle.surface.specs.Runs.{taus_of, check_run}
+use Rattle.surface.specs.Runs.{check_run}
 use Rattle.surface.specs.Axis.{grid_number}
-use Rattle.surface.specs.Lookup.{tolerances_of, bracket_of}
-use Rattle.surface.specs.Surface.{tols_of, bracket_in, surface_grid_number}
-use Rattle.surface.specs.Inner.{InArray}
-
--- the positions of a segment
-pub places : (b : Bracket) {lo hi : ℕ} {x : Float} → b ≡ Segment lo hi x → InArray b → (lo < 32) × (hi < 32)
-places b e i = subst InArray e i
+use Rattle.surface.specs.Surface.{surface_grid_number}
 
 few_by : (n m : ℕ) (b : Bool) → ltb 32 n ≡ b → cond b 11 m ≡ 0 → n ≤ 32
 few_by n m true e h = absurd (omega (arith, h))
@@ -40,12 +31,3 @@ no_refusal false m h = h
 pub entry_few : (run : Run) (k tau : List Float) {r : ℕ} → r ≡ surface_grid_number run k tau → r ≡ 0 → run.count ≤ 32
 unfolding surface_grid_number
 entry_few run k tau {r} e z = few run (passed_number (check_run run) (grid_number k tau) (no_refusal (ltb 64 (length k) || ltb 64 (length tau)) _ (sym e ∙ z))).0
-
--- what the code reckons of a run, its taus and then its tolerances, is what the definitions say
-module _ (run : Run) {taus tols : List Float} (e : taus ≡ taus_of run.recs) (h : tols ≡ tolerances_of taus run.count) where
-  pub tols_of_lem : tols ≡ tols_of run
-  tols_of_lem = h ∙ ap (λ (l : List Float). tolerances_of l run.count) e
-
-  pub bracket_of_lem : (policy : ShortExpiryPolicy) (k tau : Float) → bracket_of taus tols run.count policy k tau ≡ bracket_in run policy k tau
-  unfolding bracket_in
-  bracket_of_lem policy k tau = ap₂ (λ (a b : List Float). bracket_of a b run.count policy k tau) e tols_of_lem

@@ -1,6 +1,6 @@
 -- The lookup of a tau among the nodes of a surface (svi.rs: `node_tolerance`, `bracket`). The tolerances are handed in. Definitions only.
 -- docs/METHOD.md, 'Surfaces and diagnostics'.
-use Rattle.std.specs.Prelude.{Bool, cond, List, ℕ, ◌+◌, ◌-◌, eqb, ltb, set, replicate, Float}
+use Rattle.std.specs.Prelude.{Bool, cond, List, ℕ, ◌+◌, ◌-◌, eqb, ltb, set, replicate, Float, Result, Ok, Err}
 use Rattle.std.specs.Float.Ieee.{lt, le}
 use Rattle.laws.specs.Choice.{refusing}
 use Rattle.laws.specs.Floats.{◌-f◌, ◌*f◌, ◌/f◌, f64, +0, quarter, one, at, abs_of, min_of}
@@ -9,7 +9,7 @@ use Rattle.point.specs.Point.{point_number}
 use Rattle.surface.specs.declared.types.ShortExpiryPolicy.{ShortExpiryPolicy}
 use Rattle.surface.specs.declared.types.ShortExpiryPolicy.TheVariants.{Reject, ConstantVol}
 use Rattle.surface.specs.declared.types.Bracket.{Bracket}
-use Rattle.surface.specs.declared.types.Bracket.TheVariants.{Segment, Short, Refused}
+use Rattle.surface.specs.declared.types.Bracket.TheVariants.{Segment, Short}
 
 -- ---- the tolerance of a node
 
@@ -60,26 +60,26 @@ unfoldable pub on_node : ℕ → Bracket
 on_node j = cond (eqb j 0) (Segment 0 1 +0) (Segment (j - 1) j one)
 
 -- before the first node: 36, or the first slice alone
-abbrev pub short_of : ShortExpiryPolicy → Bracket
-short_of Reject = Refused 36
-short_of ConstantVol = Short
+abbrev pub short_of : ShortExpiryPolicy → Result Bracket ℕ
+short_of Reject = Err 36
+short_of ConstantVol = Ok Short
 
 -- between the node before h and h, x the share of the gap; 37 where no node is beyond tau
-unfoldable pub inside_of : List Float → ℕ → Float → ℕ → Bracket
-inside_of taus n tau h = cond (ltb h n) (Segment (h - 1) h ((tau -f at taus (h - 1)) /f (at taus h -f at taus (h - 1)))) (Refused 37)
+unfoldable pub inside_of : List Float → ℕ → Float → ℕ → Result Bracket ℕ
+inside_of taus n tau h = cond (ltb h n) (Ok (Segment (h - 1) h ((tau -f at taus (h - 1)) /f (at taus h -f at taus (h - 1))))) (Err 37)
 
 -- on a node; before the first; in a segment, or beyond the last
-unfoldable pub lookup_of : List Float → List Float → ℕ → ShortExpiryPolicy → Float → Bracket
+unfoldable pub lookup_of : List Float → List Float → ℕ → ShortExpiryPolicy → Float → Result Bracket ℕ
 lookup_of taus tols n policy tau =
-    cond (ltb (node_of taus tols n tau) n) (on_node (node_of taus tols n tau))
+    cond (ltb (node_of taus tols n tau) n) (Ok (on_node (node_of taus tols n tau)))
     (cond (lt tau (at taus 0)) (short_of policy)
     (inside_of taus n tau (beyond_of taus n tau)))
 
 -- 11, over 32 nodes; 34, 35, the point; then the lookup
-unfoldable pub bracket_of : List Float → List Float → ℕ → ShortExpiryPolicy → Float → Float → Bracket
+unfoldable pub bracket_of : List Float → List Float → ℕ → ShortExpiryPolicy → Float → Float → Result Bracket ℕ
 bracket_of taus tols n policy k tau =
-    cond (ltb 32 n) (Refused 11)
-    (refusing (point_number k tau) Refused
+    cond (ltb 32 n) (Err 11)
+    (refusing (point_number k tau) Err
     (lookup_of taus tols n policy tau))
 
 -- the policy of a caller who names none

@@ -1,18 +1,18 @@
 // What a tested run of slices answers: the region and the total variance of a point, and whether a grid holds every node.
 ghost use Rattle.std.specs.Prelude.{◌≡◌, ◌≤◌};
-ghost use Rattle.surface.specs.Surface.{both_hold, region_by, region_in, mixed_of, short_scaled, blend_of, short_in, segment_of, short_from, variance_in, variance_at, bracket_run, region_run, total_run, all_held, surface_grid_number, covered_by, covers_run};
-ghost use Rattle.surface.specs.Inner.{InArray};
+ghost use Rattle.refusals.specs.Numbers.{numbered, number_in};
+ghost use Rattle.surface.specs.Surface.{both_hold, region_by, region_in, mixed_of, short_scaled, segment_of, short_from, variance_at, bracket_run, region_run, total_run, all_held, surface_grid_number, covers_run};
+ghost use Rattle.surface.specs.Lookup.{bracket_of};
 
-use crate::types::{Bracket, Covered, Region, Run, ShortExpiryPolicy};
-use point::{Total, TotalVariance};
-use slice::{Evaluated, KRange, SviSlice, Values};
+use crate::types::{Bracket, Nodes, Region, Run, ShortExpiryPolicy};
+use point::TotalVariance;
+use refusals::Refusal;
+use slice::{SviSlice, Values};
 
 fn both_hold(lo: SviSlice, hi: SviSlice, k: f64) -> bool
     ensures { result ≡ both_hold lo hi k }
 {
-    let a = lo.k_range;
-    let b = hi.k_range;
-    KRange::contains(a, k) & KRange::contains(b, k)
+    lo.k_range.contains(k) & hi.k_range.contains(k)
 }
 
 fn region_by(yes: bool) -> Region
@@ -25,23 +25,8 @@ fn region_by(yes: bool) -> Region
     }
 }
 
-fn region_in(recs: [SviSlice; 32], b: Bracket, k: f64) -> Region
-    requires { InArray b }
-    ensures { result ≡ region_in recs b k }
-{
-    match b {
-        Bracket::Refused(n) => Region::Refused(n),
-        Bracket::Short => Region::Extrapolated,
-        Bracket::Segment { lo, hi, x: _ } => {
-            let l = recs[lo];
-            let h = recs[hi];
-            region_by(both_hold(l, h, k))
-        }
-    }
-}
-
-fn mixed(a: Values, b: Values, x: f64, gap: f64) -> Total
-    ensures { result ≡ mixed_of a b x gap }
+fn mixed(a: Values, b: Values, x: f64, gap: f64) -> Result<TotalVariance, Refusal>
+    ensures { numbered result ≡ mixed_of a b x gap }
 {
     let y = 1.0 - x;
     TotalVariance::new(
@@ -52,170 +37,117 @@ fn mixed(a: Values, b: Values, x: f64, gap: f64) -> Total
     )
 }
 
-fn grown(v: Values, tau: f64, first: f64) -> Total
-    ensures { result ≡ short_scaled v tau first }
+fn grown(v: Values, tau: f64, first: f64) -> Result<TotalVariance, Refusal>
+    ensures { numbered result ≡ short_scaled v tau first }
 {
     let scale = tau / first;
     TotalVariance::new(v.w * scale, v.w_k * scale, v.w_kk * scale, v.w / first)
 }
 
-fn blend(l: Evaluated, h: Evaluated, x: f64, gap: f64) -> Total
-    ensures { result ≡ blend_of l h x gap }
+fn segment_at(lo: SviSlice, hi: SviSlice, x: f64, k: f64) -> Result<TotalVariance, Refusal>
+    ensures { numbered result ≡ segment_of lo hi x k }
 {
-    match l {
-        Evaluated::Refused(n) => Total::Refused(n),
-        Evaluated::At(a) => match h {
-            Evaluated::Refused(n) => Total::Refused(n),
-            Evaluated::At(b) => mixed(a, b, x, gap),
-        },
-    }
+    let l = slice::eval_tested(lo, k)?;
+    let h = slice::eval_tested(hi, k)?;
+    mixed(l, h, x, hi.tau - lo.tau)
 }
 
-fn scaled(e: Evaluated, tau: f64, first: f64) -> Total
-    ensures { result ≡ short_in e tau first }
+fn short_at(first: SviSlice, k: f64, tau: f64) -> Result<TotalVariance, Refusal>
+    ensures { numbered result ≡ short_from first k tau }
 {
-    match e {
-        Evaluated::Refused(n) => Total::Refused(n),
-        Evaluated::At(v) => grown(v, tau, first),
-    }
+    let v = slice::eval_tested(first, k)?;
+    grown(v, tau, first.tau)
 }
 
-fn segment_at(lo: SviSlice, hi: SviSlice, x: f64, k: f64) -> Total
-    ensures { result ≡ segment_of lo hi x k }
-{
-    let gap = hi.tau - lo.tau;
-    blend(slice::eval_tested(lo, k), slice::eval_tested(hi, k), x, gap)
-}
-
-fn short_at(first: SviSlice, k: f64, tau: f64) -> Total
-    ensures { result ≡ short_from first k tau }
-{
-    scaled(slice::eval_tested(first, k), tau, first.tau)
-}
-
-fn variance_in(recs: [SviSlice; 32], b: Bracket, k: f64, tau: f64) -> Total
-    requires { InArray b }
-    ensures { result ≡ variance_in recs b k tau }
-{
-    match b {
-        Bracket::Refused(n) => Total::Refused(n),
-        Bracket::Short => {
-            let first = recs[0];
-            short_at(first, k, tau)
+impl Run {
+    fn region(
+        &self,
+        nodes: &Nodes,
+        policy: ShortExpiryPolicy,
+        k: f64,
+        tau: f64,
+    ) -> Result<Region, Refusal>
+        ensures { numbered result ≡ region_in self.now.recs (bracket_of nodes.now.taus nodes.now.tols nodes.now.count policy k tau) k }
+    {
+        match nodes.bracket(policy, k, tau)? {
+            Bracket::Short => Ok(Region::Extrapolated),
+            Bracket::Segment { lo, hi, x: _ } => {
+                Ok(region_by(both_hold(self.recs[lo], self.recs[hi], k)))
+            }
         }
-        Bracket::Segment { lo, hi, x } => {
-            let l = recs[lo];
-            let h = recs[hi];
-            segment_at(l, h, x, k)
+    }
+
+    // The total variance at a point of tested slices, whose nodes these are.
+    pub fn total_variance(
+        &self,
+        nodes: &Nodes,
+        policy: ShortExpiryPolicy,
+        k: f64,
+        tau: f64,
+    ) -> Result<TotalVariance, Refusal>
+        ensures { numbered result ≡ variance_at self.now.recs nodes.now.taus nodes.now.tols nodes.now.count policy k tau }
+    {
+        match nodes.bracket(policy, k, tau)? {
+            Bracket::Short => short_at(self.recs[0], k, tau),
+            Bracket::Segment { lo, hi, x } => segment_at(self.recs[lo], self.recs[hi], x, k),
         }
     }
 }
 
-// The total variance at a point of tested slices.
-pub fn variance_at(
-    recs: [SviSlice; 32],
-    taus: &[f64; 32],
-    tols: &[f64; 32],
-    n: usize,
+pub fn bracket_run(
+    run: Run,
     policy: ShortExpiryPolicy,
     k: f64,
     tau: f64,
-) -> Total
-    ensures { result ≡ variance_at recs taus.now tols.now n policy k tau }
+) -> Result<Bracket, Refusal>
+    ensures { numbered result ≡ bracket_run run policy k tau }
 {
-    variance_in(
-        recs,
-        crate::lookup::bracket_at(taus, tols, n, policy, k, tau),
-        k,
-        tau,
-    )
+    crate::run::check_run(run)?;
+    Nodes::of(&run).bracket(policy, k, tau)
 }
 
-pub fn bracket_run(run: Run, policy: ShortExpiryPolicy, k: f64, tau: f64) -> Bracket
-    ensures { result ≡ bracket_run run policy k tau }
+pub fn region_run(run: Run, policy: ShortExpiryPolicy, k: f64, tau: f64) -> Result<Region, Refusal>
+    ensures { numbered result ≡ region_run run policy k tau }
 {
-    let bad = crate::run::check_run(run);
-    if bad == 0 {
-        let n = run.count;
-        let recs = run.recs;
-        let taus = crate::run::taus_of(recs);
-        let tols = crate::lookup::tolerances(&taus, n);
-        return crate::lookup::bracket_at(&taus, &tols, n, policy, k, tau);
-    }
-    Bracket::Refused(bad)
+    crate::run::check_run(run)?;
+    run.region(&Nodes::of(&run), policy, k, tau)
 }
 
-pub fn region_run(run: Run, policy: ShortExpiryPolicy, k: f64, tau: f64) -> Region
-    ensures { result ≡ region_run run policy k tau }
+pub fn total_variance_run(
+    run: Run,
+    policy: ShortExpiryPolicy,
+    k: f64,
+    tau: f64,
+) -> Result<TotalVariance, Refusal>
+    ensures { numbered result ≡ total_run run policy k tau }
 {
-    let bad = crate::run::check_run(run);
-    if bad == 0 {
-        let n = run.count;
-        let recs = run.recs;
-        let taus = crate::run::taus_of(recs);
-        let tols = crate::lookup::tolerances(&taus, n);
-        let b = crate::lookup::bracket_at(&taus, &tols, n, policy, k, tau);
-        return region_in(recs, b, k);
-    }
-    Region::Refused(bad)
+    crate::run::check_run(run)?;
+    run.total_variance(&Nodes::of(&run), policy, k, tau)
 }
 
-pub fn total_variance_run(run: Run, policy: ShortExpiryPolicy, k: f64, tau: f64) -> Total
-    ensures { result ≡ total_run run policy k tau }
-{
-    let bad = crate::run::check_run(run);
-    if bad == 0 {
-        let n = run.count;
-        let recs = run.recs;
-        let taus = crate::run::taus_of(recs);
-        let tols = crate::lookup::tolerances(&taus, n);
-        return variance_at(recs, &taus, &tols, n, policy, k, tau);
-    }
-    Total::Refused(bad)
-}
-
-fn all_held(recs: [SviSlice; 32], n: usize, tau: &[f64]) -> bool
+fn all_held(recs: &[SviSlice; 32], n: usize, tau: &[f64]) -> bool
     requires { n ≤ 32 }
-    ensures { result ≡ all_held recs n tau.now }
+    ensures { result ≡ all_held recs.now n tau.now }
 {
-    let mut ok = true;
-    for i in 0..n {
-        let s = recs[i];
-        ok = ok & crate::axis::holds(tau, s.tau);
-    }
-    ok
+    recs[..n].iter().all(|s| crate::axis::holds(tau, s.tau))
 }
 
-// 11, the surface's numbers, then 40 and 41; or 0.
-pub fn entry_number(run: Run, k: &[f64], tau: &[f64]) -> u32
-    ensures { result ≡ surface_grid_number run k.now tau.now }
+// 11, the surface's numbers, then 40 and 41.
+pub fn check_entry(run: Run, k: &[f64], tau: &[f64]) -> Result<(), Refusal>
+    ensures { number_in result ≡ surface_grid_number run k.now tau.now }
 {
     let over = (64 < k.len()) | (64 < tau.len());
     if over {
-        return 11;
+        return Err(Refusal::Size);
     }
-    let bad = crate::run::check_run(run);
-    if bad == 0 {
-        return crate::axis::number(k, tau);
-    }
-    bad
-}
-
-fn covered_by(yes: bool) -> Covered
-    ensures { result ≡ covered_by yes }
-{
-    if yes { Covered::All } else { Covered::NotAll }
+    crate::run::check_run(run)?;
+    crate::axis::check_axes(k, tau)
 }
 
 // Whether the tau axis holds the bits of every node.
-pub fn covers_run(run: Run, k: &[f64], tau: &[f64]) -> Covered
-    ensures { result ≡ covers_run run k.now tau.now }
+pub fn covers_run(run: Run, k: &[f64], tau: &[f64]) -> Result<bool, Refusal>
+    ensures { numbered result ≡ covers_run run k.now tau.now }
 {
-    let bad = entry_number(run, k, tau);
-    if bad == 0 {
-        let n = run.count;
-        let recs = run.recs;
-        return covered_by(all_held(recs, n, tau));
-    }
-    Covered::Refused(bad)
+    check_entry(run, k, tau)?;
+    Ok(all_held(&run.recs, run.count, tau))
 }

@@ -1,39 +1,55 @@
 // The two axes of a diagnostic grid, lent.
-ghost use Rattle.std.specs.Prelude.{◌≡◌};
+ghost use Rattle.std.specs.Prelude.{◌≡◌, length};
+ghost use Rattle.std.specs.List.{list_all};
+ghost use Rattle.laws.specs.Floats.{finite};
+ghost use Rattle.refusals.specs.Numbers.{number_in};
+ghost use Rattle.surface.specs.Runs.{rises_of};
 ghost use Rattle.surface.specs.Axis.{rising_of, all_positive, grid_number, held_of};
+
+use refusals::Refusal;
+
+// Whether each value is above the one before it.
+pub(crate) fn rises(v: &[f64]) -> bool
+    ensures { result ≡ rises_of v.now (length v.now) }
+{
+    v.iter()
+        .zip(v.iter().skip(1))
+        .all(|(before, x)| *before < *x)
+}
+
+fn all_finite(v: &[f64]) -> bool
+    ensures { result ≡ list_all finite v.now }
+{
+    v.iter().all(|x| bits::is_finite(*x))
+}
 
 // Whether an axis has values, all finite, each above the one before it.
 pub fn rising(v: &[f64]) -> bool
     ensures { result ≡ rising_of v.now }
 {
-    if v.len() == 0 {
+    if v.is_empty() {
         return false;
     }
-    let mut ok = bits::is_finite(v[0]);
-    for i in 1..v.len() {
-        let x = v[i];
-        let before = v[i - 1];
-        ok = ok & (bits::is_finite(x) & (before < x));
-    }
-    ok
+    all_finite(v) & rises(v)
 }
 
 fn all_positive(v: &[f64]) -> bool
     ensures { result ≡ all_positive v.now }
 {
-    let mut ok = true;
-    for i in 0..v.len() {
-        ok = ok & (0.0 < v[i]);
-    }
-    ok
+    v.iter().all(|x| 0.0 < *x)
 }
 
-// 40 for the k axis, then 41 for the tau axis, or 0.
-pub fn number(k: &[f64], tau: &[f64]) -> u32
-    ensures { result ≡ grid_number k.now tau.now }
+// 40 for the k axis, then 41 for the tau axis.
+pub fn check_axes(k: &[f64], tau: &[f64]) -> Result<(), Refusal>
+    ensures { number_in result ≡ grid_number k.now tau.now }
 {
-    let good = rising(tau) & all_positive(tau);
-    bits::pick_number(rising(k), bits::pick_number(good, 0, 41), 40)
+    if !rising(k) {
+        return Err(Refusal::KAxis);
+    }
+    if rising(tau) & all_positive(tau) {
+        return Ok(());
+    }
+    Err(Refusal::TauAxis)
 }
 
 // Whether the axis holds a value with the bits of x.
@@ -41,9 +57,5 @@ pub fn holds(v: &[f64], x: f64) -> bool
     ensures { result ≡ held_of v.now x }
 {
     let bits = bits::bits_of(x);
-    let mut found = false;
-    for i in 0..v.len() {
-        found = found | (bits::bits_of(v[i]) == bits);
-    }
-    found
+    v.iter().any(|y| bits::bits_of(*y) == bits)
 }

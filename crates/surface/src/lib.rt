@@ -4,7 +4,7 @@
 pub mod types; // what the functions take and hand back
 pub mod axis; // the two axes of a diagnostic grid
 pub mod run; // a copied run, and its tests
-pub mod lookup; // the segment of a tau
+pub mod lookup; // the nodes of a run, and the segment of a tau
 pub mod answers; // what a tested run answers
 
 ghost use Rattle.std.specs.Prelude.{◌≡◌};
@@ -17,11 +17,9 @@ use types::Run;
 pub fn copied(s: &[SviSlice]) -> Run
     ensures { result ≡ run_of s.now }
 {
-    let mut run = run::empty();
-    let mut i = 0;
-    while i < s.len() {
-        run = run::push(run, s[i]);
-        i += 1;
+    let mut run = Run::empty();
+    for x in s {
+        run.push(*x);
     }
     run
 }

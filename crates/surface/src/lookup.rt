@@ -1,52 +1,45 @@
-// The lookup of a tau among the nodes of a surface and their tolerances.
-ghost use Rattle.std.specs.Prelude.{◌≡◌, ◌<◌, ◌≤◌};
-ghost use Rattle.surface.specs.Lookup.{before_of, after_of, tolerance_of, tolerances_of, near_of, node_of, beyond_of, on_node, short_of, inside_of, lookup_of, bracket_of};
-ghost use Rattle.surface.specs.Inner.{InArray};
+// The nodes of a surface, and the lookup of a tau among them and their tolerances.
+ghost use Rattle.std.specs.Prelude.{◌≡◌, ◌<◌, ◌≤◌, length, drop, zip, position};
+ghost use Rattle.std.specs.Float.Ieee.{lt};
+ghost use Rattle.laws.specs.Floats.{◌-f◌, ◌*f◌, quarter, min_of};
+ghost use Rattle.refusals.specs.Numbers.{numbered};
+ghost use Rattle.surface.specs.Lookup.{tolerance_of, tolerances_of, near_of, on_node, short_of, beyond_of, inside_of, bracket_of};
+ghost use Rattle.surface.specs.Surface.{nodes_of};
 
-use crate::types::{Bracket, ShortExpiryPolicy};
+use crate::types::{Bracket, Nodes, Run, ShortExpiryPolicy};
+use refusals::Refusal;
 
-fn capped_before(taus: &[f64; 32], i: usize, tol: f64) -> f64
-    requires { i < 32 }
-    ensures { result ≡ before_of taus.now i tol }
+// At most a quarter of a gap.
+fn capped(tol: f64, lo: f64, hi: f64) -> f64
+    ensures { result ≡ min_of tol (quarter *f (hi -f lo)) }
 {
-    if i == 0 {
-        return tol;
-    }
-    let t = taus[i];
-    let before = taus[i - 1];
-    bits::min(tol, 0.25 * (t - before))
+    bits::min(tol, 0.25 * (hi - lo))
 }
 
-fn capped_after(taus: &[f64; 32], n: usize, i: usize, tol: f64) -> f64
-    requires { (i < n) × (n ≤ 32) }
-    ensures { result ≡ after_of taus.now n i tol }
+fn tolerance_at(taus: &[f64], i: usize) -> f64
+    requires { i < length taus.now }
+    ensures { result ≡ tolerance_of taus.now (length taus.now) i }
 {
-    if i + 1 < n {
-        let t = taus[i];
-        let next = taus[i + 1];
-        return bits::min(tol, 0.25 * (next - t));
+    let tau = taus[i];
+    let mut tol = 1e-12 * tau;
+    if i != 0 {
+        tol = capped(tol, taus[i - 1], tau);
+    }
+    if i + 1 < taus.len() {
+        return capped(tol, tau, taus[i + 1]);
     }
     tol
 }
 
-fn tolerance_at(taus: &[f64; 32], n: usize, i: usize) -> f64
-    requires { (i < n) × (n ≤ 32) }
-    ensures { result ≡ tolerance_of taus.now n i }
-{
-    let tol = 1e-12 * taus[i];
-    capped_after(taus, n, i, capped_before(taus, i, tol))
-}
-
-// The tolerance of each node; zeros where there are more than 32.
-pub fn tolerances(taus: &[f64; 32], n: usize) -> [f64; 32]
-    ensures { result ≡ tolerances_of taus.now n }
+// The tolerance of each node, zeros behind them.
+fn tolerances(taus: &[f64]) -> [f64; 32]
+    requires { length taus.now ≤ 32 }
+    ensures { result ≡ tolerances_of taus.now (length taus.now) }
 {
     let mut tols = [0.0; 32];
-    if 32 < n {
-        return tols;
-    }
-    for i in 0..n {
-        tols[i] = tolerance_at(taus, n, i);
+    // Stays: by index, since the tolerance of a node reads both its neighbours.
+    for i in 0..taus.len() {
+        tols[i] = tolerance_at(taus, i);
     }
     tols
 }
@@ -57,39 +50,24 @@ fn near(node: f64, tau: f64, tol: f64) -> bool
     bits::magnitude(node - tau) <= tol
 }
 
-// The first node within its tolerance of tau, or n.
-fn node(taus: &[f64; 32], tols: &[f64; 32], n: usize, tau: f64) -> usize
-    requires { n ≤ 32 }
-    ensures { result ≡ node_of taus.now tols.now n tau }
+// The first node within its tolerance of tau.
+fn node(taus: &[f64], tols: &[f64], tau: f64) -> Option<usize>
+    ensures { result ≡ position (λ n. near_of n.0 tau n.1) (zip taus.now tols.now) }
 {
-    let mut i = 0;
-    while i < n {
-        if near(taus[i], tau, tols[i]) {
-            return i;
-        }
-        i += 1;
-    }
-    i
+    taus.iter()
+        .zip(tols)
+        .position(|(node, tol)| near(*node, tau, *tol))
 }
 
-// The first node beyond tau, the first of all left out; or n.
-fn beyond(taus: &[f64; 32], n: usize, tau: f64) -> usize
-    requires { n ≤ 32 }
-    ensures { (result ≡ beyond_of taus.now n tau) × (1 ≤ result) }
+// The node before the first one beyond tau, where the first of all counts as none.
+fn node_below(taus: &[f64], tau: f64) -> Option<usize>
+    ensures { result ≡ position (λ t. lt tau t) (drop 1 taus.now) }
 {
-    let mut i = 1;
-    while i < n {
-        if tau < taus[i] {
-            return i;
-        }
-        i += 1;
-    }
-    i
+    taus.iter().skip(1).position(|t| tau < *t)
 }
 
 fn on_node(j: usize) -> Bracket
-    requires { j < 32 }
-    ensures { (result ≡ on_node j) × InArray result }
+    ensures { result ≡ on_node j }
 {
     if j == 0 {
         return Bracket::Segment {
@@ -105,70 +83,65 @@ fn on_node(j: usize) -> Bracket
     }
 }
 
-fn short_of(policy: ShortExpiryPolicy) -> Bracket
-    ensures { (result ≡ short_of policy) × InArray result }
+fn short_of(policy: ShortExpiryPolicy) -> Result<Bracket, Refusal>
+    ensures { numbered result ≡ short_of policy }
 {
     match policy {
-        ShortExpiryPolicy::Reject => Bracket::Refused(36),
-        ShortExpiryPolicy::ConstantVol => Bracket::Short,
+        ShortExpiryPolicy::Reject => Err(Refusal::BeforeFirst),
+        ShortExpiryPolicy::ConstantVol => Ok(Bracket::Short),
     }
 }
 
-fn inside(taus: &[f64; 32], n: usize, tau: f64, h: usize) -> Bracket
-    requires { (n ≤ 32) × (1 ≤ h) }
-    ensures { (result ≡ inside_of taus.now n tau h) × InArray result }
+fn inside(taus: &[f64], tau: f64) -> Result<Bracket, Refusal>
+    ensures { numbered result ≡ inside_of taus.now (length taus.now) tau (beyond_of taus.now (length taus.now) tau) }
 {
-    if h < n {
-        let l = h - 1;
-        let lo = taus[l];
-        let hi = taus[h];
-        return Bracket::Segment {
-            lo: l,
-            hi: h,
-            x: (tau - lo) / (hi - lo),
-        };
+    match node_below(taus, tau) {
+        Some(lo) => {
+            let hi = lo + 1;
+            Ok(Bracket::Segment {
+                lo,
+                hi,
+                x: (tau - taus[lo]) / (taus[hi] - taus[lo]),
+            })
+        }
+        None => Err(Refusal::BeyondLast),
     }
-    Bracket::Refused(37)
 }
 
-// The segment of tau among n nodes with these tolerances.
-fn lookup(
-    taus: &[f64; 32],
-    tols: &[f64; 32],
-    n: usize,
-    policy: ShortExpiryPolicy,
-    tau: f64,
-) -> Bracket
-    requires { n ≤ 32 }
-    ensures { (result ≡ lookup_of taus.now tols.now n policy tau) × InArray result }
-{
-    let j = node(taus, tols, n, tau);
-    if j < n {
-        return on_node(j);
+impl Nodes {
+    // Over 32 nodes, which no lookup takes, the tolerances are zeros.
+    pub fn of(run: &Run) -> Nodes
+        ensures { result ≡ nodes_of run.now }
+    {
+        let n = run.count;
+        let taus = crate::run::taus_of(&run.recs);
+        let mut tols = [0.0; 32];
+        if n <= 32 {
+            tols = tolerances(&taus[..n]);
+        }
+        Nodes {
+            count: n,
+            taus,
+            tols,
+        }
     }
-    if tau < taus[0] {
-        return short_of(policy);
-    }
-    inside(taus, n, tau, beyond(taus, n, tau))
-}
 
-// The same of a point that is tested first, and of any count of nodes.
-pub(crate) fn bracket_at(
-    taus: &[f64; 32],
-    tols: &[f64; 32],
-    n: usize,
-    policy: ShortExpiryPolicy,
-    k: f64,
-    tau: f64,
-) -> Bracket
-    ensures { (result ≡ bracket_of taus.now tols.now n policy k tau) × InArray result }
-{
-    if 32 < n {
-        return Bracket::Refused(11);
+    // The segment of tau, after the tests of the point.
+    pub fn bracket(&self, policy: ShortExpiryPolicy, k: f64, tau: f64) -> Result<Bracket, Refusal>
+        ensures { numbered result ≡ bracket_of self.now.taus self.now.tols self.now.count policy k tau }
+    {
+        let n = self.count;
+        if 32 < n {
+            return Err(Refusal::Size);
+        }
+        point::check_point(k, tau)?;
+        let taus = &self.taus[..n];
+        if let Some(j) = node(taus, &self.tols[..n], tau) {
+            return Ok(on_node(j));
+        }
+        if tau < self.taus[0] {
+            return short_of(policy);
+        }
+        inside(taus, tau)
     }
-    let bad = point::check_point(k, tau);
-    if bad == 0 {
-        return lookup(taus, tols, n, policy, tau);
-    }
-    Bracket::Refused(bad)
 }

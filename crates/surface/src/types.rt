@@ -5,10 +5,19 @@ ghost use Rattle.surface.specs.Lookup.{default_policy};
 use slice::SviSlice;
 
 // A lent run of slice records, copied: how many there are, and the first 32.
+// Stays: a count beside an array, and no slice, since the promises of the entries are about this copy (docs/PROMISES.md: `surface::copied`).
 #[derive(Clone, Copy)]
 pub struct Run {
     pub count: usize,
     pub recs: [SviSlice; 32],
+}
+
+// The nodes of a surface, as each lookup among them needs them: the taus of its slices, and the tolerance of each.
+#[derive(Clone, Copy)]
+pub struct Nodes {
+    pub count: usize,
+    pub taus: [f64; 32],
+    pub tols: [f64; 32],
 }
 
 // What stands below the first expiry.
@@ -18,8 +27,11 @@ pub enum ShortExpiryPolicy {
     ConstantVol,
 }
 
-impl ShortExpiryPolicy {
-    pub fn default() -> ShortExpiryPolicy
+// Stays: not derived, since a derived `default` promises less than that it is `default_policy`.
+impl Default for ShortExpiryPolicy {
+    ghost is_default = { λ policy. policy ≡ default_policy };
+
+    fn default() -> ShortExpiryPolicy
         ensures { result ≡ default_policy }
     {
         ShortExpiryPolicy::ConstantVol
@@ -31,7 +43,6 @@ impl ShortExpiryPolicy {
 pub enum Bracket {
     Short,
     Segment { lo: usize, hi: usize, x: f64 },
-    Refused(u32),
 }
 
 // Whether a point is backed by calibrated data.
@@ -39,13 +50,4 @@ pub enum Bracket {
 pub enum Region {
     Calibrated,
     Extrapolated,
-    Refused(u32),
-}
-
-// Whether the tau axis of a grid holds every node.
-#[derive(Clone, Copy)]
-pub enum Covered {
-    All,
-    NotAll,
-    Refused(u32),
 }

@@ -1,20 +1,22 @@
 -- Laws of writing: one text after another, digits, and lists of values as they are written. Assumes nothing.
-use Prim.Native.Nat.{ℕ, zero, suc, ◌+◌, ◌-◌, ◌/◌, ◌%◌, ◌≤◌, ◌<◌}
+use Prim.Native.Nat.{ℕ, zero, suc, ◌+◌, ◌*◌, ◌-◌, ◌/◌, ◌%◌, ◌≤◌, ◌<◌}
 use mathlib.Core.Path.{◌≡◌, refl, sym, ap, ap₂, ◌∙◌}
 use mathlib.Core.Bool.{Bool, true, false, cond}
 use mathlib.Core.List.{List, [], ◌∷◌, ◌++◌, append_assoc, append-nil}
 use native.Mathlib.Omega.{arith}
 use native.Mathlib.Nat.{zero-add, add-zero, sub-zero}
 use native.Mathlib.Numerals.{add-one, sub-one}
-use lib.ListN.{length, take, drop, set, get_or, length-append, length-set}
-use lib.Seq.{set_out, set-append_seam, take-suc, take_all}
+use lib.ListN.{length, take, drop, set, get_or, length-append, length-set, length-drop}
+use lib.Seq.{set_out, set-append_seam, take-suc, take_all, drop-drop, length-take-le}
 use Rattle.laws.specs.Loop.{turns, for}
 use Rattle.laws.proofs.Loops.{turns_last}
-use lib.Dec.{ltb, leb}
-use borrow.Author.Tests.{lt-ltb, le-ltb, le-leb, leb-true}
+use lib.Dec.{ltb}
+use borrow.Author.Tests.{lt-ltb, le-ltb, le-leb, lt-leb}
 use Rattle.text.specs.Digits.{glyph_of, digits_of, each}
 use Rattle.laws.proofs.Choices.{if_true, if_false}
-use Rattle.text.specs.Place.{Wrote, onto, placed}
+use Rattle.std.specs.Simd.{first_chunks}
+use Rattle.text.specs.declared.page.Page.{Page}
+use Rattle.text.specs.Place.{Wrote, Says, onto, placed}
 
 -- nothing written
 pub wrote_none : (l : List ℕ) (at : ℕ) → Wrote l l at at []
@@ -50,6 +52,25 @@ pub then : {l l₁ l₂ : List ℕ} {at at₁ at₂ : ℕ} {t u : List ℕ} → 
 then {l} {at = at} {t = t} {u = u} a b =
     record { holds = b.holds ∙ ap₂ (onto u) a.next a.holds ∙ onto_append t u at l; next = rw length-append (omega (arith, a.next, b.next)) }
 
+-- ---- the same on a page
+
+pub says_none : (p : Page) → Says p p []
+says_none p = record { same = refl; wrote = wrote_none p.out.now p.at }
+
+pub says_then : {p p₁ p₂ : Page} {t u : List ℕ} → Says p p₁ t → Says p₁ p₂ u → Says p p₂ (t ++ u)
+says_then a b = record { same = b.same ∙ a.same; wrote = then a.wrote b.wrote }
+
+-- one byte, where the room has its place, and where it has not
+pub says_one : (p : Page) (b : ℕ) → Says p record { out = record p.out { now = set p.out.now p.at b }; at = p.at + 1 } (b ∷ [])
+says_one p b = record { same = refl; wrote = wrote_one p.out.now p.at b }
+
+pub says_beyond : (p : Page) (b : ℕ) → length p.out.now ≤ p.at → Says p record { out = p.out; at = p.at + 1 } (b ∷ [])
+says_beyond p b h = record { same = refl; wrote = wrote_beyond p.out.now p.at b h }
+
+-- where the text is another's
+pub says_as : {p p' : Page} {t u : List ℕ} → u ≡ t → Says p p' t → Says p p' u
+says_as e a = rw e a
+
 -- ---- digits
 
 pub digits_short : (b stop f n : ℕ) → length (digits_of b stop f n) ≤ f
@@ -78,15 +99,11 @@ digits_more b stop (suc f) n d h p g = rw (le-ltb n stop p, ← g, sub-one)
 
 -- ---- a text as it is copied
 
-pub text_more : (l l₁ l₂ : List ℕ) (at at₁ at₂ : ℕ) (t : List ℕ) (j : ℕ) → j < length t → Wrote l l₁ at at₁ (take j t) → Wrote l₁ l₂ at₁ at₂ (get_or t j 0 ∷ []) → Wrote l l₂ at at₂ (take (j + 1) t)
-text_more l l₁ l₂ at at₁ at₂ t j h a b = rw (add-one j, take-suc t j 0 h) (then a b)
+pub text_more : {p p₁ p₂ : Page} (t : List ℕ) (j : ℕ) → j < length t → Says p p₁ (take j t) → Says p₁ p₂ (get_or t j 0 ∷ []) → Says p p₂ (take (j + 1) t)
+text_more t j h a b = rw (add-one j, take-suc t j 0 h) (says_then a b)
 
-pub text_done : {l l' : List ℕ} {at at' : ℕ} (t : List ℕ) (j : ℕ) → length t ≤ j → Wrote l l' at at' (take j t) → Wrote l l' at at' t
-text_done t j h w = rw (take_all j t h) at w
-
--- where the text is another's
-pub wrote_as : {l l' : List ℕ} {at at' : ℕ} {t u : List ℕ} → u ≡ t → Wrote l l' at at' t → Wrote l l' at at' u
-wrote_as e w = rw e w
+pub text_done : {p p' : Page} (t : List ℕ) (j : ℕ) → length t ≤ j → Says p p' (take j t) → Says p p' t
+text_done t j h a = rw (take_all j t h) at a
 
 -- ---- a space and the text of each value
 
@@ -97,15 +114,15 @@ module _ {A : Type 0} (text : A → List ℕ) where
   each_append (x ∷ xs) ys =
       ap (λ (l : List ℕ). 32 ∷ (text x ++ l)) (each_append xs ys) ∙ ap (λ (l : List ℕ). 32 ∷ l) (sym (append_assoc (text x) (each text xs) (each text ys)))
 
-  pub each_more : (l l₁ l₂ l₃ : List ℕ) (at p q r : ℕ) (t : List ℕ) (xs : List A) (j : ℕ) (d : A) → j < length xs → t ≡ text (get_or xs j d) → Wrote l l₁ at p (each text (take j xs)) → Wrote l₁ l₂ p q (32 ∷ []) → Wrote l₂ l₃ q r t → Wrote l l₃ at r (each text (take (j + 1) xs))
+  each_last : (xs : List A) (x : A) → each text (xs ++ (x ∷ [])) ≡ each text xs ++ (32 ∷ text x)
   unfolding each
-  each_more l l₁ l₂ l₃ at p q r t xs j d h e a b c =
-      wrote_as
-      (rw (add-one j, take-suc xs j d h) (each_append (take j xs) (get_or xs j d ∷ []) ∙ ap (λ (m : List ℕ). each text (take j xs) ++ (32 ∷ (m ++ []))) (sym e) ∙ rw append-nil))
-      (then a (then b c))
+  each_last xs x = each_append xs (x ∷ []) ∙ rw append-nil
 
-  pub each_done : {l l' : List ℕ} {at at' : ℕ} (xs : List A) (j : ℕ) → length xs ≤ j → Wrote l l' at at' (each text (take j xs)) → Wrote l l' at at' (each text xs)
-  each_done xs j h w = rw (take_all j xs h) at w
+  pub each_more : {p p₁ p₂ p₃ : Page} (xs : List A) (j : ℕ) (d : A) → j < length xs → Says p p₁ (each text (take j xs)) → Says p₁ p₂ (32 ∷ []) → Says p₂ p₃ (text (get_or xs j d)) → Says p p₃ (each text (take (j + 1) xs))
+  each_more xs j d h a b c = says_as (rw (add-one j, take-suc xs j d h) (each_last (take j xs) (get_or xs j d))) (says_then a (says_then b c))
+
+  pub each_done : {p p' : Page} (xs : List A) (j : ℕ) → length xs ≤ j → Says p p' (each text (take j xs)) → Says p p' (each text xs)
+  each_done xs j h a = rw (take_all j xs h) at a
 
 -- ---- a text that a loop writes, one piece a turn
 
@@ -114,14 +131,29 @@ module _ (f : ℕ → List ℕ) where
   abbrev pub pieces : ℕ → List ℕ
   pieces n = turns (λ i t. t ++ f i) n 0 []
 
-  pub piece_more : {l l₁ l₂ : List ℕ} {at p q : ℕ} {t : List ℕ} (j : ℕ) → t ≡ f j → Wrote l l₁ at p (pieces j) → Wrote l₁ l₂ p q t → Wrote l l₂ at q (pieces (j + 1))
+  pub piece_more : {p p₁ p₂ : Page} {t : List ℕ} (j : ℕ) → t ≡ f j → Says p p₁ (pieces j) → Says p₁ p₂ t → Says p p₂ (pieces (j + 1))
   piece_more {t = t} j e a b =
-      wrote_as
+      says_as
       (rw (add-one j) (turns_last (λ (i : ℕ) (t : List ℕ). t ++ f i) j 0 [] ∙ ap (λ (x : List ℕ). pieces j ++ x) (ap f (zero-add j) ∙ sym e)))
-      (then a b)
+      (says_then a b)
 
-  pub piece_done : {l l' : List ℕ} {at at' : ℕ} (j n : ℕ) → j ≡ n → Wrote l l' at at' (pieces j) → Wrote l l' at at' (for 0 n (λ i t. t ++ f i) [])
-  piece_done j n e w = rw (sub-zero n, ← e) w
+  pub piece_done : {p p' : Page} (j n : ℕ) → j ≡ n → Says p p' (pieces j) → Says p p' (for 0 n (λ i t. t ++ f i) [])
+  piece_done j n e a = rw (sub-zero n, ← e) a
+
+-- ---- numbers in groups of four, as the code cuts them out
+
+four_at : {A : Type 0} (k i : ℕ) (xs : List A) (d : List A) → i < k → get_or (first_chunks 4 k xs) i d ≡ take 4 (drop (4 * i) xs)
+four_at zero i xs d h = absurd (omega arith)
+four_at (suc k) zero xs d h = refl
+four_at (suc k) (suc i) xs d h =
+    let e : 4 + 4 * i ≡ 4 * suc i = omega arith in
+    four_at k i (drop 4 xs) d (omega arith) ∙ ap (take 4) (drop-drop (4 * i) 4 xs ∙ ap (λ n. drop n xs) e)
+
+pub four_cut : {A : Type 0} (xs : List A) (cut : List (List A)) → cut ≡ first_chunks 4 (length xs / 4) xs → (i : ℕ) → i < length xs / 4
+    → (get_or cut i [] ≡ take 4 (drop (4 * i) xs)) × (length (get_or cut i []) ≡ 4)
+four_cut xs cut e i h =
+    let at = ap (λ c. get_or c i []) e ∙ four_at (length xs / 4) i xs [] h in
+    (at, ap length at ∙ length-take-le 4 (drop (4 * i) xs) (omega (arith, length-drop (4 * i) xs)))
 
 -- ---- a whole text
 
@@ -140,14 +172,16 @@ module _ {n n' t : List ℕ} {size : ℕ} (m : Wrote n n' 0 size t) where
   long = m.next ∙ zero-add (length t)
 
   -- a text that was measured is written where the room holds it ..
-  pub handed : {l l' : List ℕ} {r : ℕ} {b : Bool} → b ≡ leb size (length l) → b ≡ true → Wrote l l' 0 r t → (r ≡ length t) × (l' ≡ placed t l)
-  handed {l} e h w =
-      let fits : length t ≤ length l = omega (arith, leb-true size (length l) (sym e ∙ h), long) in
-      (w.next ∙ zero-add (length t), if_true _ (le-leb (length t) (length l) fits) (w.holds ∙ onto_front t [] l 0 refl fits))
+  pub handed : {l l' : List ℕ} {r : ℕ} → size ≤ length l → Wrote l l' 0 r t → (size ≡ length t) × (l' ≡ placed t l)
+  handed {l} h w =
+      let fits : length t ≤ length l = omega (arith, h, long) in
+      (long, if_true _ (le-leb (length t) (length l) fits) (w.holds ∙ onto_front t [] l 0 refl fits))
 
   -- .. and else the room is as it was
-  pub withheld : (l : List ℕ) {b : Bool} → b ≡ leb size (length l) → b ≡ false → (size ≡ length t) × (l ≡ placed t l)
-  withheld l e h = (long, if_false _ (ap (λ (k : ℕ). leb k (length l)) (sym long) ∙ sym e ∙ h) refl)
+  pub withheld : (l : List ℕ) → length l < size → (size ≡ length t) × (l ≡ placed t l)
+  withheld l h =
+      let short : length l < length t = omega (arith, h, long) in
+      (long, if_false _ (lt-leb (length t) (length l) short) refl)
 
-pub empty : (o t : List ℕ) (size : ℕ) → t ≡ [] → (0 ≡ length t) × ((o ≡ placed t o) × (0 ≤ size))
-empty o t size e = (sym (ap length e), (sym (ap (λ (x : List ℕ). placed x o) e ∙ sym (if_true o (le-leb 0 (length o) (omega arith)) refl)), omega arith))
+pub empty : (o t : List ℕ) → t ≡ [] → o ≡ placed t o
+empty o t e = sym (ap (λ (x : List ℕ). placed x o) e ∙ sym (if_true o (le-leb 0 (length o) (omega arith)) refl))

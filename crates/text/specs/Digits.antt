@@ -27,8 +27,11 @@ each text [] = []
 each text (x ∷ xs) = 32 ∷ (text x ++ each text xs)
 
 -- a float is its bits; `to_bits` gives 7ff8000000000000 for every NaN
+abbrev pub float_of : Float → List ℕ
+float_of x = hex_of (to_bits binary64 x)
+
 abbrev pub floats_of : List Float → List ℕ
-floats_of xs = each (λ x. hex_of (to_bits binary64 x)) xs
+floats_of xs = each float_of xs
 
 abbrev pub counts_of : List ℕ → List ℕ
 counts_of ns = each decimal_of ns

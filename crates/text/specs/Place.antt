@@ -2,6 +2,7 @@
 use Rattle.std.specs.Prelude.{ℕ, ◌+◌, ◌≡◌, List, [], ◌∷◌, leb, length, set}
 use Rattle.laws.specs.Choice.{unless}
 use Rattle.laws.specs.Room.{at_front}
+use Rattle.text.specs.declared.page.Page.{Page}
 
 -- a text is written whole, at the front, where the room holds it; else nothing is
 abbrev pub placed : List ℕ → List ℕ → List ℕ
@@ -16,6 +17,11 @@ onto (b ∷ text) at before = onto text (at + 1) (set before at b)
 pub record Wrote (l l' : List ℕ) (at at' : ℕ) (t : List ℕ) : Type 0 where
   pub holds : l' ≡ onto t at l
   pub next : at' ≡ at + length t
+
+-- a page had text t written on it, and is on the same buffer
+pub record Says (p p' : Page) (t : List ℕ) : Type 0 where
+  pub same : p'.out.ghost_name ≡ p.out.ghost_name
+  pub wrote : Wrote p.out.now p'.out.now p.at p'.at t
 
 -- no answer is longer
 abbrev pub longest : ℕ

@@ -1,24 +1,10 @@
-// The lines of an answer, one after the other. Each function writes as far as the buffer goes, and answers the next place.
-ghost use Rattle.std.specs.Prelude.{◌≡◌, ◌++◌, ◌+◌, ◌*◌, ◌/◌, ◌≤◌, length};
-ghost use Rattle.text.specs.Place.{Wrote, longest};
-ghost use Rattle.text.specs.Lines.{capped_line, point_lines};
-ghost use Rattle.text.specs.Answers.{is_late, refused_of, refusal_text, refused_text, figures_text, full_text};
+// The lines of an answer, one after the other.
+ghost use Rattle.std.specs.Prelude.{◌≡◌, ◌&&◌, ◌+◌, ◌≤◌, leb, length};
+ghost use Rattle.text.specs.Place.{Wrote, Says, longest};
+ghost use Rattle.text.specs.Answers.{is_late, malformed_text, refused_of, refusal_text, refused_text, figures_text, accepted_text};
 
-use crate::lines;
+use crate::page::Page;
 use records::FitAnswer;
-
-// 9 has its floats, and any other refusal the two counts.
-fn refused_of(out: &mut [u8], at: usize, a: FitAnswer) -> usize
-    requires { at + 71 ≤ longest }
-    ensures wrote { Wrote out.old out.new at result (refused_of a) }
-    ensures upper_bound { result ≤ at + 71 }
-{
-    let number = a.number;
-    if number == 9 {
-        return lines::refused_floats(out, at, a.rmse_vol, a.max_rmse_vol);
-    }
-    lines::refused_line(out, at, number, a.observed, a.required)
-}
 
 fn is_late(number: u32) -> bool
     ensures { result ≡ is_late number }
@@ -26,48 +12,89 @@ fn is_late(number: u32) -> bool
     (6 <= number) & (number <= 9)
 }
 
-fn refusal(out: &mut [u8], at: usize, a: FitAnswer) -> usize
-    requires { at + 204 ≤ longest }
-    ensures wrote { Wrote out.old out.new at result (refusal_text a) }
-    ensures upper_bound { result ≤ at + 204 }
+fn few(points: usize, capped: usize) -> bool
+    ensures { result ≡ leb points 1024 && leb capped 256 }
 {
-    let late = is_late(a.number);
-    if !late {
-        return refused_of(out, at, a);
+    (points <= 1024) & (capped <= 256)
+}
+
+impl Page<'_> {
+    // 9 has its floats, and any other refusal the two counts.
+    fn refused_of(&mut self, a: FitAnswer)
+        requires { self.old.at + 71 ≤ longest }
+        ensures wrote { Says self.old self.new (refused_of a) }
+        ensures upper_bound { self.new.at ≤ self.old.at + 71 }
+    {
+        if a.number == 9 {
+            self.refused_floats(a.rmse_vol, a.max_rmse_vol);
+        } else {
+            self.refused_line(a.number, a.observed, a.required);
+        }
     }
-    let p = lines::search_line(out, at, a.counts);
-    refused_of(out, p, a)
+
+    fn refusal(&mut self, a: FitAnswer)
+        requires { self.old.at + 204 ≤ longest }
+        ensures wrote { Says self.old self.new (refusal_text a) }
+        ensures upper_bound { self.new.at ≤ self.old.at + 204 }
+    {
+        if is_late(a.number) {
+            self.search_line(a.counts);
+        }
+        self.refused_of(a);
+    }
+
+    fn figures(&mut self, a: FitAnswer)
+        requires { self.old.at + 347 ≤ longest }
+        ensures wrote { Says self.old self.new (figures_text a) }
+        ensures upper_bound { self.new.at ≤ self.old.at + 347 }
+    {
+        self.fit_line(a.slice);
+        self.search_line(a.counts);
+        self.margins_line(a);
+        self.active_line(&a.active);
+    }
+
+    // More points or capped positions than any answer has are no text.
+    fn accepted(
+        &mut self,
+        read: usize,
+        kept: usize,
+        a: FitAnswer,
+        residuals: &[f64],
+        capped: &[usize],
+    )
+        requires { self.old.at ≡ 0 }
+        ensures wrote { Says self.old self.new (accepted_text read kept a residuals.now capped.now) }
+        ensures upper_bound { self.new.at ≤ longest }
+    {
+        if few(residuals.len(), capped.len()) {
+            self.read_line(read, kept);
+            self.figures(a);
+            self.capped_line(capped);
+            self.point_lines(residuals);
+        }
+    }
 }
 
-fn figures(out: &mut [u8], at: usize, a: FitAnswer) -> usize
-    requires { at + 347 ≤ longest }
-    ensures wrote { Wrote out.old out.new at result (figures_text a) }
-    ensures upper_bound { result ≤ at + 347 }
+// ---- whole answers, from the buffer's front on: how far each goes
+
+pub(crate) fn malformed(out: &mut [u8]) -> usize
+    ensures wrote { Wrote out.old out.new 0 result malformed_text }
+    ensures upper_bound { result ≤ 128 }
 {
-    let p = lines::fit_line(out, at, a.slice);
-    let q = lines::search_line(out, p, a.counts);
-    let r = lines::margins_line(out, q, a);
-    let marks = a.active;
-    lines::active_line(out, r, marks)
+    let mut page = Page { out, at: 0 };
+    page.refused_line(43, 0, 0);
+    page.at
 }
-
-fn points(out: &mut [u8], at: usize, capped: &[usize], residuals: &[f64]) -> usize
-    requires { at + 28 + 21 * length capped.now + 74 * (length residuals.now / 4) ≤ longest }
-    ensures wrote { Wrote out.old out.new at result (capped_line capped.now ++ point_lines residuals.now) }
-    ensures upper_bound { result ≤ at + 28 + 21 * length capped.now + 74 * (length residuals.now / 4) }
-{
-    let p = lines::capped_line(out, at, capped);
-    lines::point_lines(out, p, residuals)
-}
-
-// ---- whole answers, from the buffer's front on
 
 pub(crate) fn refused(out: &mut [u8], read: usize, kept: usize, a: FitAnswer) -> usize
     ensures wrote { Wrote out.old out.new 0 result (refused_text read kept a) }
     ensures upper_bound { result ≤ 256 }
 {
-    let p = lines::read_line(out, 0, read, kept);
-    refusal(out, p, a)
+    let mut page = Page { out, at: 0 };
+    page.read_line(read, kept);
+    page.refusal(a);
+    page.at
 }
 
 pub(crate) fn accepted(
@@ -78,11 +105,10 @@ pub(crate) fn accepted(
     residuals: &[f64],
     capped: &[usize],
 ) -> usize
-    requires { (length residuals.now ≤ 1024) × (length capped.now ≤ 256) }
-    ensures wrote { Wrote out.old out.new 0 result (full_text read kept a residuals.now capped.now) }
+    ensures wrote { Wrote out.old out.new 0 result (accepted_text read kept a residuals.now capped.now) }
     ensures upper_bound { result ≤ longest }
 {
-    let p = lines::read_line(out, 0, read, kept);
-    let q = figures(out, p, a);
-    points(out, q, capped, residuals)
+    let mut page = Page { out, at: 0 };
+    page.accepted(read, kept, a, residuals, capped);
+    page.at
 }

@@ -4,19 +4,26 @@
 
 use records::FitAnswer;
 
-mod digits; // digits.rt: bytes and numbers
+mod page; // page.rt: bytes and numbers
 mod lines; // lines.rt: one line each
 mod answers; // answers.rt: lines one after the other
 
-ghost use Rattle.std.specs.Prelude.{◌≡◌, ◌&&◌, ◌≤◌, leb, length};
-ghost use Rattle.text.specs.Place.{placed, longest};
+ghost use Rattle.std.specs.Prelude.{◌≡◌, ◌≤◌, ℕ, List, length};
+ghost use Rattle.text.specs.Place.{Wrote, placed, longest};
 ghost use Rattle.text.specs.Answers.{malformed_text, refused_text, accepted_text};
 
-// Whether a text of so many bytes is handed over.
-fn holds(room: usize, size: usize) -> bool
-    ensures { result ≡ leb size room }
+// What write puts onto any buffer, as far as that goes, is measured on one byte, and put into the room where this holds it.
+fn whole<F: Fn(&mut [u8]) -> usize>(out: &mut [u8], write: F) -> usize
+    requires { F.IsAlwaysCallable write }
+    ensures said { (text : List ℕ) → ((b b' : _) (r : ℕ) → F.post write b r b' → Wrote b.now b'.now 0 r text) → (result ≡ length text) × (out.new ≡ placed text out.old) }
+    ensures measured { (b b' : _) × F.post write b result b' }
 {
-    size <= room
+    let mut none = [0u8; 1];
+    let size = write(&mut none);
+    if size <= out.len() {
+        write(out);
+    }
+    size
 }
 
 // The answer to a malformed file.
@@ -25,26 +32,17 @@ pub fn malformed(out: &mut [u8]) -> usize
     ensures out_after { out.new ≡ placed malformed_text out.old }
     ensures upper_bound { result ≤ 128 }
 {
-    let mut none = [0u8; 1];
-    let size = lines::refused_line(&mut none, 0, 43, 0, 0);
-    if holds(out.len(), size) {
-        return lines::refused_line(out, 0, 43, 0, 0);
-    }
-    size
+    whole(out, |out| answers::malformed(out))
 }
 
 // The answer to any other file that is refused.
+// Stays: read, kept and the fit's answer travel together, here and in `accepted`, since these signatures are promised.
 pub fn refused(read: usize, kept: usize, a: FitAnswer, out: &mut [u8]) -> usize
     ensures value { result ≡ length (refused_text read kept a) }
     ensures out_after { out.new ≡ placed (refused_text read kept a) out.old }
     ensures upper_bound { result ≤ 256 }
 {
-    let mut none = [0u8; 1];
-    let size = answers::refused(&mut none, read, kept, a);
-    if holds(out.len(), size) {
-        return answers::refused(out, read, kept, a);
-    }
-    size
+    whole(out, |out| answers::refused(out, read, kept, a))
 }
 
 // The answer to a file whose fit is accepted. More than 256 points, or capped positions, no answer has: then the text is empty.
@@ -60,20 +58,8 @@ pub fn accepted(
     ensures out_after { out.new ≡ placed (accepted_text read kept a residuals.now capped.now) out.old }
     ensures upper_bound { result ≤ longest }
 {
-    let sized = few(residuals.len(), capped.len());
-    if !sized {
-        return 0;
-    }
-    let mut none = [0u8; 1];
-    let size = answers::accepted(&mut none, read, kept, a, residuals, capped);
-    if holds(out.len(), size) {
-        return answers::accepted(out, read, kept, a, residuals, capped);
-    }
-    size
-}
-
-fn few(points: usize, capped: usize) -> bool
-    ensures { result ≡ leb points 1024 && leb capped 256 }
-{
-    (points <= 1024) & (capped <= 256)
+    whole(
+        out,
+        |out| answers::accepted(out, read, kept, a, residuals, capped),
+    )
 }

@@ -1,144 +1,121 @@
-// The lines of an answer. Each function writes from a place on, as far as the buffer goes, and answers the next place.
-ghost use Rattle.std.specs.Prelude.{◌+◌, ◌*◌, ◌/◌, ◌<◌, ◌≤◌, length};
-ghost use Rattle.text.specs.Place.{Wrote, longest};
-ghost use Rattle.text.specs.Lines.{floats_line, counts_line, read_line, fit_line, search_line, margins_line, active_line, capped_line, point_line, point_lines, refused_line, refused_floats};
+// The lines of an answer.
+ghost use Rattle.std.specs.Prelude.{◌+◌, ◌*◌, ◌/◌, ◌≤◌, ◌≡◌, length};
+ghost use Rattle.text.specs.Place.{Says, longest};
+ghost use Rattle.text.specs.Digits.{each};
+ghost use Rattle.text.specs.Lines.{line, read_line, fit_line, search_line, margins_line, active_line, capped_line, point_lines, refused_line, refused_floats};
 
-use crate::digits::{counts, floats, marks, put_text};
+use crate::page::{Figure, Page};
 use records::{Counts, FitAnswer};
 use slice::SviSlice;
 
-fn floats_line(out: &mut [u8], at: usize, name: &[u8], xs: &[f64]) -> usize
-    requires { at + length name.now + 17 * length xs.now + 1 ≤ longest }
-    ensures wrote { Wrote out.old out.new at result (floats_line name.now xs.now) }
-    ensures upper_bound { result ≤ at + length name.now + 17 * length xs.now + 1 }
-{
-    let a = put_text(out, at, name);
-    let b = floats(out, a, xs);
-    put_text(out, b, b"\n")
-}
-
-fn counts_line(out: &mut [u8], at: usize, name: &[u8], ns: &[usize]) -> usize
-    requires { at + length name.now + 21 * length ns.now + 1 ≤ longest }
-    ensures wrote { Wrote out.old out.new at result (counts_line name.now ns.now) }
-    ensures upper_bound { result ≤ at + length name.now + 21 * length ns.now + 1 }
-{
-    let a = put_text(out, at, name);
-    let b = counts(out, a, ns);
-    put_text(out, b, b"\n")
-}
-
-pub(crate) fn read_line(out: &mut [u8], at: usize, read: usize, kept: usize) -> usize
-    requires { at + 52 ≤ longest }
-    ensures wrote { Wrote out.old out.new at result (read_line read kept) }
-    ensures upper_bound { result ≤ at + 52 }
-{
-    let a = put_text(out, at, b"read");
-    let b = counts(out, a, &[read]);
-    counts_line(out, b, b" kept", &[kept])
-}
-
-pub(crate) fn fit_line(out: &mut [u8], at: usize, s: SviSlice) -> usize
-    requires { at + 106 ≤ longest }
-    ensures wrote { Wrote out.old out.new at result (fit_line s) }
-    ensures upper_bound { result ≤ at + 106 }
-{
-    let xs = [s.tau, s.a, s.b, s.rho, s.m, s.sigma];
-    floats_line(out, at, b"fit", &xs)
-}
-
-pub(crate) fn search_line(out: &mut [u8], at: usize, n: Counts) -> usize
-    requires { at + 133 ≤ longest }
-    ensures wrote { Wrote out.old out.new at result (search_line n) }
-    ensures upper_bound { result ≤ at + 133 }
-{
-    let ns = [
-        n.passes,
-        n.recentres,
-        n.shrinks,
-        n.cells,
-        n.faces,
-        n.updates,
-    ];
-    counts_line(out, at, b"search", &ns)
-}
-
-pub(crate) fn margins_line(out: &mut [u8], at: usize, a: FitAnswer) -> usize
-    requires { at + 93 ≤ longest }
-    ensures wrote { Wrote out.old out.new at result (margins_line a) }
-    ensures upper_bound { result ≤ at + 93 }
-{
-    let xs = [
-        a.objective,
-        a.objective_params,
-        a.lee_margin,
-        a.a_margin,
-        a.rmse_vol,
-    ];
-    floats_line(out, at, b"margins", &xs)
-}
-
-pub(crate) fn active_line(out: &mut [u8], at: usize, active: [bool; 7]) -> usize
-    requires { at + 15 ≤ longest }
-    ensures wrote { Wrote out.old out.new at result (active_line active) }
-    ensures upper_bound { result ≤ at + 15 }
-{
-    let p = put_text(out, at, b"active ");
-    let q = marks(out, p, active);
-    put_text(out, q, b"\n")
-}
-
-pub(crate) fn capped_line(out: &mut [u8], at: usize, capped: &[usize]) -> usize
-    requires { at + 28 + 21 * length capped.now ≤ longest }
-    ensures wrote { Wrote out.old out.new at result (capped_line capped.now) }
-    ensures upper_bound { result ≤ at + 28 + 21 * length capped.now }
-{
-    let p = put_text(out, at, b"capped");
-    let n = capped.len();
-    let q = counts(out, p, &[n]);
-    counts_line(out, q, b"", capped)
-}
-
-// The line of the i-th four numbers.
-fn point_line(out: &mut [u8], at: usize, residuals: &[f64], i: usize) -> usize
-    requires { (4 * i + 4 ≤ length residuals.now) × (at + 74 ≤ longest) }
-    ensures wrote { Wrote out.old out.new at result (point_line residuals.now i) }
-    ensures upper_bound { result ≤ at + 74 }
-{
-    let from = 4 * i;
-    floats_line(out, at, b"point", &residuals[from..from + 4])
-}
-
-pub(crate) fn point_lines(out: &mut [u8], at: usize, residuals: &[f64]) -> usize
-    requires { at + 74 * (length residuals.now / 4) ≤ longest }
-    ensures wrote { Wrote out.old out.new at result (point_lines residuals.now) }
-    ensures upper_bound { result ≤ at + 74 * (length residuals.now / 4) }
-{
-    let n = residuals.len() / 4;
-    let mut p = at;
-    let mut i = 0;
-    while i < n {
-        p = point_line(out, p, residuals, i);
-        i += 1;
+impl Page<'_> {
+    fn line<T: Figure>(&mut self, name: &[u8], xs: &[T])
+        requires { self.old.at + length name.now + (T.most + 1) * length xs.now + 1 ≤ longest }
+        ensures wrote { Says self.old self.new (line name.now (each T.text xs.now)) }
+        ensures upper_bound { self.new.at ≤ self.old.at + length name.now + (T.most + 1) * length xs.now + 1 }
+    {
+        self.text(name);
+        self.values(xs);
+        self.text(b"\n");
     }
-    p
-}
 
-pub(crate) fn refused_line(out: &mut [u8], at: usize, number: u32, x: usize, y: usize) -> usize
-    requires { at + 71 ≤ longest }
-    ensures wrote { Wrote out.old out.new at result (refused_line number x y) }
-    ensures upper_bound { result ≤ at + 71 }
-{
-    let ns = [number as usize, x, y];
-    counts_line(out, at, b"refused", &ns)
-}
+    pub(crate) fn read_line(&mut self, read: usize, kept: usize)
+        requires { self.old.at + 52 ≤ longest }
+        ensures wrote { Says self.old self.new (read_line read kept) }
+        ensures upper_bound { self.new.at ≤ self.old.at + 52 }
+    {
+        self.text(b"read");
+        self.values(&[read]);
+        self.line(b" kept", &[kept]);
+    }
 
-// 9, the one refusal whose values are floats.
-pub(crate) fn refused_floats(out: &mut [u8], at: usize, x: f64, y: f64) -> usize
-    requires { at + 63 ≤ longest }
-    ensures wrote { Wrote out.old out.new at result (refused_floats x y) }
-    ensures upper_bound { result ≤ at + 63 }
-{
-    let p = put_text(out, at, b"refused");
-    let q = counts(out, p, &[9]);
-    floats_line(out, q, b"", &[x, y])
+    pub(crate) fn fit_line(&mut self, s: SviSlice)
+        requires { self.old.at + 106 ≤ longest }
+        ensures wrote { Says self.old self.new (fit_line s) }
+        ensures upper_bound { self.new.at ≤ self.old.at + 106 }
+    {
+        self.line(b"fit", &[s.tau, s.a, s.b, s.rho, s.m, s.sigma]);
+    }
+
+    pub(crate) fn search_line(&mut self, n: Counts)
+        requires { self.old.at + 133 ≤ longest }
+        ensures wrote { Says self.old self.new (search_line n) }
+        ensures upper_bound { self.new.at ≤ self.old.at + 133 }
+    {
+        let ns = [
+            n.passes,
+            n.recentres,
+            n.shrinks,
+            n.cells,
+            n.faces,
+            n.updates,
+        ];
+        self.line(b"search", &ns);
+    }
+
+    pub(crate) fn margins_line(&mut self, a: FitAnswer)
+        requires { self.old.at + 93 ≤ longest }
+        ensures wrote { Says self.old self.new (margins_line a) }
+        ensures upper_bound { self.new.at ≤ self.old.at + 93 }
+    {
+        let xs = [
+            a.objective,
+            a.objective_params,
+            a.lee_margin,
+            a.a_margin,
+            a.rmse_vol,
+        ];
+        self.line(b"margins", &xs);
+    }
+
+    pub(crate) fn active_line(&mut self, active: &[bool; 7])
+        requires { self.old.at + 15 ≤ longest }
+        ensures wrote { Says self.old self.new (active_line active.now) }
+        ensures upper_bound { self.new.at ≤ self.old.at + 15 }
+    {
+        self.text(b"active ");
+        self.marks(active);
+        self.text(b"\n");
+    }
+
+    pub(crate) fn capped_line(&mut self, capped: &[usize])
+        requires { self.old.at + 28 + 21 * length capped.now ≤ longest }
+        ensures wrote { Says self.old self.new (capped_line capped.now) }
+        ensures upper_bound { self.new.at ≤ self.old.at + 28 + 21 * length capped.now }
+    {
+        self.text(b"capped");
+        self.values(&[capped.len()]);
+        self.line(b"", capped);
+    }
+
+    // One for each four numbers.
+    pub(crate) fn point_lines(&mut self, residuals: &[f64])
+        requires { self.old.at + 74 * (length residuals.now / 4) ≤ longest }
+        ensures wrote { Says self.old self.new (point_lines residuals.now) }
+        ensures upper_bound { self.new.at ≤ self.old.at + 74 * (length residuals.now / 4) }
+    {
+        let (points, _) = residuals.as_chunks::<4>();
+        for point in points {
+            self.line(b"point", point);
+        }
+    }
+
+    pub(crate) fn refused_line(&mut self, number: u32, x: usize, y: usize)
+        requires { self.old.at + 71 ≤ longest }
+        ensures wrote { Says self.old self.new (refused_line number x y) }
+        ensures upper_bound { self.new.at ≤ self.old.at + 71 }
+    {
+        self.line(b"refused", &[number as usize, x, y]);
+    }
+
+    // 9, the one refusal whose values are floats.
+    pub(crate) fn refused_floats(&mut self, x: f64, y: f64)
+        requires { self.old.at + 63 ≤ longest }
+        ensures wrote { Says self.old self.new (refused_floats x y) }
+        ensures upper_bound { self.new.at ≤ self.old.at + 63 }
+    {
+        self.text(b"refused");
+        self.values(&[9usize]);
+        self.line(b"", &[x, y]);
+    }
 }

@@ -13,34 +13,32 @@ use Rattle.laws.specs.Floats.{◌-f◌, ◌*f◌, quarter, at, min_of}
 use Rattle.laws.proofs.Choices.{cond_ind, cond_test, if_true, if_false}
 use Rattle.laws.proofs.Floats.{nan_test}
 use Rattle.laws.proofs.Order.{lt_le_trans, lt→le}
-use Rattle.point.specs.declared.Total.TheVariants as total
 use Rattle.point.specs.Point.{point_number}
 use Rattle.surface.specs.declared.types.Run.{Run}
 use Rattle.surface.specs.declared.types.ShortExpiryPolicy.{ShortExpiryPolicy}
 use Rattle.surface.specs.declared.types.ShortExpiryPolicy.TheVariants.{Reject}
 use Rattle.surface.specs.declared.types.Bracket.{Bracket}
-use Rattle.surface.specs.declared.types.Bracket.TheVariants.{Refused}
-use Rattle.surface.specs.declared.types.Region.TheVariants as region
 use Rattle.surface.specs.Runs.{taus_of, check_run}
 use Rattle.surface.specs.Lookup.{node_tolerance, before_of, after_of, tolerance_of, near_of, near_at, node_of, beyond_of, on_node, short_of, inside_of, lookup_of}
 use Rattle.surface.specs.Surface.{tols_of, bracket_run, region_run, total_run}
 use Rattle.surface.specs.Last.{TausFit}
 use Rattle.surface.specs.First.{first_tolerance, BeforeFirst}
-use Rattle.theorems.proofs.LookupNumbers.{node_answers, not_valued}
+use Rattle.theorems.proofs.LookupNumbers.{not_valued}
 use Rattle.theorems.proofs.OnValidRun as on
 use Rattle.theorems.proofs.OnValidRun.{search_none, none_found, min_le}
 use Rattle.theorems.proofs.RejectNamed.{bracket_36}
 use Rattle.theorems.proofs.Spans.{from_true}
 use Rattle.theorems.proofs.ValidRun.{Valid, valid_run}
+use Rattle.std.specs.Prelude.{Result, Ok, Err}
 
 -- ---- 36 comes from the second test alone
 
-inside_no : (taus : List Float) (n : ℕ) (tau : Float) (h : ℕ) → inside_of taus n tau h ≡ Refused 36 → ⊥
+inside_no : (taus : List Float) (n : ℕ) (tau : Float) (h : ℕ) → inside_of taus n tau h ≡ Err 36 → ⊥
 unfolding inside_of
-inside_no taus n tau h e = cond_ind (λ (b : Bracket). b ≡ Refused 36 → ⊥) (ltb h n) (λ e. let z : ◌≡◌ {A = ℕ} 0 1 = cc in omega arith) (λ e. let z : ◌≡◌ {A = ℕ} 36 37 = cc in omega (arith, z)) e
+inside_no taus n tau h e = cond_ind (λ (b : Result Bracket ℕ). b ≡ Err 36 → ⊥) (ltb h n) (λ e. let z : ◌≡◌ {A = ℕ} 0 1 = cc in omega arith) (λ e. let z : ◌≡◌ {A = ℕ} 36 37 = cc in omega (arith, z)) e
 
-short_found : (a b : Bool) (j : ℕ) (policy : ShortExpiryPolicy) (rest : Bracket) → (rest ≡ Refused 36 → ⊥) → cond a (on_node j) (cond b (short_of policy) rest) ≡ Refused 36 → (a ≡ false) × (b ≡ true)
-short_found true b j policy rest never e = absurd (node_answers j 36 e)
+short_found : (a b : Bool) (j : ℕ) (policy : ShortExpiryPolicy) (rest : Result Bracket ℕ) → (rest ≡ Err 36 → ⊥) → cond {A = Result Bracket ℕ} a (Ok (on_node j)) (cond b (short_of policy) rest) ≡ Err 36 → (a ≡ false) × (b ≡ true)
+short_found true b j policy rest never e = let z : ◌≡◌ {A = ℕ} 0 1 = cc in absurd (omega arith)
 short_found false true j policy rest never e = (refl, refl)
 short_found false false j policy rest never e = absurd (never e)
 
@@ -115,7 +113,7 @@ module _ (run : Run) (valid : check_run run ≡ 0) (k tau : Float) (point : poin
 
     -- ---- 36 only there
 
-    refused : lookup_of taus (tols_of run) n policy tau ≡ Refused 36 → BeforeFirst run tau
+    refused : lookup_of taus (tols_of run) n policy tau ≡ Err 36 → BeforeFirst run tau
     unfolding lookup_of node_of
     refused e =
         let a = short_found (ltb (node_of taus (tols_of run) n tau) n) (lt tau (at taus 0)) (node_of taus (tols_of run) n tau) policy (inside_of taus n tau (beyond_of taus n tau)) (inside_no taus n tau (beyond_of taus n tau)) e in
@@ -129,7 +127,7 @@ module _ (run : Run) (valid : check_run run ≡ 0) (k tau : Float) (point : poin
 
     -- ---- and there always, under Reject
 
-    refuses : TausFit run → (policy ≡ Reject) × BeforeFirst run tau → lookup_of taus (tols_of run) n policy tau ≡ Refused 36
+    refuses : TausFit run → (policy ≡ Reject) × BeforeFirst run tau → lookup_of taus (tols_of run) n policy tau ≡ Err 36
     unfolding lookup_of node_of
     refuses fit (named, far) =
         let none : node_of taus (tols_of run) n tau ≡ n = search_none (near_at taus (tols_of run) tau) (n - 0) 0 (λ j l m. not_near fit far j (omega (arith, m))) ∙ (let z : 0 + (n - 0) ≡ n = omega arith in z) in
@@ -137,13 +135,13 @@ module _ (run : Run) (valid : check_run run ≡ 0) (k tau : Float) (point : poin
         (if_true _ (under_first fit far) (sym (ap short_of named))))
 
     -- 36 of `bracket`
-    pub bracket_36_where : TausFit run → (bracket_run run policy k tau ≡ Refused 36) ↔ ((policy ≡ Reject) × BeforeFirst run tau)
+    pub bracket_36_where : TausFit run → (bracket_run run policy k tau ≡ Err 36) ↔ ((policy ≡ Reject) × BeforeFirst run tau)
     bracket_36_where fit = (λ e. (bracket_36 policy run k tau e, refused (sym is ∙ e)), λ far. is ∙ refuses fit far)
 
     -- 36 of `region`
-    pub region_36_where : TausFit run → (region_run run policy k tau ≡ region.Refused 36) ↔ ((policy ≡ Reject) × BeforeFirst run tau)
+    pub region_36_where : TausFit run → (region_run run policy k tau ≡ Err 36) ↔ ((policy ≡ Reject) × BeforeFirst run tau)
     region_36_where fit = let h = on.region_as_bracket run valid k tau point policy 36 in (λ e. (bracket_36_where fit).0 (h.0 e), λ far. h.1 ((bracket_36_where fit).1 far))
 
     -- 36 of `total_variance`
-    pub total_36_where : TausFit run → (total_run run policy k tau ≡ total.Refused 36) ↔ ((policy ≡ Reject) × BeforeFirst run tau)
+    pub total_36_where : TausFit run → (total_run run policy k tau ≡ Err 36) ↔ ((policy ≡ Reject) × BeforeFirst run tau)
     total_36_where fit = let h = on.total_as_bracket run valid k tau point policy 36 (not_valued 36 (omega arith) (omega arith)) in (λ e. (bracket_36_where fit).0 (h.0 e), λ far. h.1 ((bracket_36_where fit).1 far))

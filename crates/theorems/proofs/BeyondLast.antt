@@ -17,36 +17,35 @@ use Rattle.laws.proofs.Choices.{cond_ind, cond_test, if_false}
 use Rattle.laws.proofs.Ops.{apply, neg_value, mul_value, add_value}
 use Rattle.laws.proofs.Order.{lt_le_trans, lt_not_self, lt→le}
 use Rattle.laws.proofs.Signs.{Signed, round_signed, mul_signed}
-use Rattle.point.specs.declared.Total.TheVariants as total
 use Rattle.point.specs.Point.{point_number}
 use Rattle.surface.specs.declared.types.Run.{Run}
 use Rattle.surface.specs.declared.types.ShortExpiryPolicy.{ShortExpiryPolicy}
 use Rattle.surface.specs.declared.types.ShortExpiryPolicy.TheVariants.{Reject, ConstantVol}
 use Rattle.surface.specs.declared.types.Bracket.{Bracket}
-use Rattle.surface.specs.declared.types.Bracket.TheVariants.{Segment, Refused}
-use Rattle.surface.specs.declared.types.Region.TheVariants as region
+use Rattle.surface.specs.declared.types.Bracket.TheVariants.{Segment}
 use Rattle.surface.specs.Runs.{taus_of, check_run}
 use Rattle.surface.specs.Lookup.{node_tolerance, before_of, after_of, tolerance_of, near_of, near_at, node_of, beyond_at, beyond_of, on_node, short_of, inside_of, lookup_of}
 use Rattle.surface.specs.Surface.{tols_of, bracket_run, region_run, total_run}
 use Rattle.surface.specs.Last.{last_tolerance, BeyondLast, TausFit}
-use Rattle.theorems.proofs.LookupNumbers.{node_answers, not_valued}
+use Rattle.theorems.proofs.LookupNumbers.{not_valued}
 use Rattle.theorems.proofs.OnValidRun as on
 use Rattle.theorems.proofs.OnValidRun.{search_none, none_found, min_le}
 use Rattle.theorems.proofs.Spans.{from_true, to_false, positive_no_nan, not_below, within_any}
 use Rattle.theorems.proofs.ValidRun.{Valid, valid_run}
+use Rattle.std.specs.Prelude.{Result, Ok, Err}
 
 -- ---- what is no 37
 
-short_no : (policy : ShortExpiryPolicy) → short_of policy ≡ Refused 37 → ⊥
+short_no : (policy : ShortExpiryPolicy) → short_of policy ≡ Err 37 → ⊥
 short_no Reject e = let z : ◌≡◌ {A = ℕ} 36 37 = cc in omega (arith, z)
 short_no ConstantVol e = let z : ◌≡◌ {A = ℕ} 0 1 = cc in omega arith
 
-found_none : (a b : Bool) (j : ℕ) (policy : ShortExpiryPolicy) (rest : Bracket) → cond a (on_node j) (cond b (short_of policy) rest) ≡ Refused 37 → (a ≡ false) × (rest ≡ Refused 37)
-found_none true b j policy rest e = absurd (node_answers j 37 e)
+found_none : (a b : Bool) (j : ℕ) (policy : ShortExpiryPolicy) (rest : Result Bracket ℕ) → cond {A = Result Bracket ℕ} a (Ok (on_node j)) (cond b (short_of policy) rest) ≡ Err 37 → (a ≡ false) × (rest ≡ Err 37)
+found_none true b j policy rest e = let z : ◌≡◌ {A = ℕ} 0 1 = cc in absurd (omega arith)
 found_none false true j policy rest e = absurd (short_no policy e)
 found_none false false j policy rest e = (refl, e)
 
-none_beyond : (b : Bool) (lo hi : ℕ) (x : Float) → cond b (Segment lo hi x) (Refused 37) ≡ Refused 37 → b ≡ false
+none_beyond : (b : Bool) (lo hi : ℕ) (x : Float) → cond {A = Result Bracket ℕ} b (Ok (Segment lo hi x)) (Err 37) ≡ Err 37 → b ≡ false
 none_beyond true lo hi x e = let z : ◌≡◌ {A = ℕ} 0 1 = cc in absurd (omega arith)
 none_beyond false lo hi x e = refl
 
@@ -163,7 +162,7 @@ module _ (run : Run) (valid : check_run run ≡ 0) (k tau : Float) (point : poin
   module _ (policy : ShortExpiryPolicy) where
     -- ---- 37 only there
 
-    refused : lookup_of taus (tols_of run) n policy tau ≡ Refused 37 → BeyondLast run tau
+    refused : lookup_of taus (tols_of run) n policy tau ≡ Err 37 → BeyondLast run tau
     unfolding lookup_of node_of beyond_of inside_of
     refused e =
         let two = v.two in
@@ -180,7 +179,7 @@ module _ (run : Run) (valid : check_run run ≡ 0) (k tau : Float) (point : poin
 
     -- ---- and there always
 
-    refuses : TausFit run → BeyondLast run tau → lookup_of taus (tols_of run) n policy tau ≡ Refused 37
+    refuses : TausFit run → BeyondLast run tau → lookup_of taus (tols_of run) n policy tau ≡ Err 37
     unfolding lookup_of node_of beyond_of inside_of
     refuses fit far =
         let two = v.two in
@@ -191,7 +190,7 @@ module _ (run : Run) (valid : check_run run ≡ 0) (k tau : Float) (point : poin
         (if_false _ (le-ltb _ n (let z : n ≤ beyond_of taus n tau = omega (arith, past) in z)) refl)))
 
     -- 37 of `bracket`
-    pub bracket_37 : TausFit run → (bracket_run run policy k tau ≡ Refused 37) ↔ BeyondLast run tau
+    pub bracket_37 : TausFit run → (bracket_run run policy k tau ≡ Err 37) ↔ BeyondLast run tau
     bracket_37 fit = (λ e. refused (sym is ∙ e), λ far. is ∙ refuses fit far)
       where
         is : bracket_run run policy k tau ≡ lookup_of taus (tols_of run) n policy tau
@@ -200,9 +199,9 @@ module _ (run : Run) (valid : check_run run ≡ 0) (k tau : Float) (point : poin
     -- ---- the region and the total variance hand it on
 
     -- 37 of `region`
-    pub region_37 : TausFit run → (region_run run policy k tau ≡ region.Refused 37) ↔ BeyondLast run tau
+    pub region_37 : TausFit run → (region_run run policy k tau ≡ Err 37) ↔ BeyondLast run tau
     region_37 fit = let h = on.region_as_bracket run valid k tau point policy 37 in (λ e. (bracket_37 fit).0 (h.0 e), λ far. h.1 ((bracket_37 fit).1 far))
 
     -- 37 of `total_variance`
-    pub total_37 : TausFit run → (total_run run policy k tau ≡ total.Refused 37) ↔ BeyondLast run tau
+    pub total_37 : TausFit run → (total_run run policy k tau ≡ Err 37) ↔ BeyondLast run tau
     total_37 fit = let h = on.total_as_bracket run valid k tau point policy 37 (not_valued 37 (omega arith) (omega arith)) in (λ e. (bracket_37 fit).0 (h.0 e), λ far. h.1 ((bracket_37 fit).1 far))

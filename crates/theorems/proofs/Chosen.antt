@@ -45,8 +45,8 @@ module _ (f : CellFn) (p : Plan) where
         a : Place
         a = place_of p s.window b
 
-        go : (x : Bool) → T (cond x (record { cell = b.cell; m = a.m; ls = a.ls; on_edge = a.on_any_edge }) s.found).cell.some
-            → Chosen f p (cond x (record { cell = b.cell; m = a.m; ls = a.ls; on_edge = a.on_any_edge }) s.found) (q + 1)
+        go : (x : Bool) → T (cond x (record { cell = b.cell; m = a.m.point; ls = a.s.point; on_edge = a.m.edge || a.s.edge }) s.found).cell.some
+            → Chosen f p (cond x (record { cell = b.cell; m = a.m.point; ls = a.s.point; on_edge = a.m.edge || a.s.edge }) s.found) (q + 1)
         go true h =
             record { pass = q; i = b.i; j = b.j; made = omega arith; stands = pass_stands f s.window p.n t; m = refl; ls = refl; edge = refl }
         go false h = longer s.found q (q + 1) (omega arith) (old h)

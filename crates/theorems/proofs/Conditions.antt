@@ -9,13 +9,14 @@ use lib.ListN.{length}
 use lib.Ieee.{Float, le}
 use lib.Ieee.Bits.{is_true}
 use borrow.Author.Tests.{eqb-true, eqb-false}
+use Rattle.moves.specs.Moves.{is_refused}
 use Rattle.laws.specs.Loop.{turns, for}
 use Rattle.laws.specs.Floats.{◌+f◌, ◌*f◌, f64, +0, at, finite}
 use Rattle.laws.proofs.Choices.{both, split, off, false_true}
 use Rattle.laws.proofs.Somes.{some_fails, none_fails}
 use Rattle.slice.specs.declared.SviSlice.{SviSlice}
-use Rattle.slice.specs.declared.Evaluated.{Evaluated}
-use Rattle.slice.specs.declared.Evaluated.TheVariants as evaluated
+use Rattle.slice.specs.declared.Values.{Values}
+use Rattle.std.specs.Prelude.{Result, Ok, Err, is_some}
 use Rattle.slice.specs.Slice.{number_of, eval_raw}
 use Rattle.moves.specs.declared.Plan.{Plan}
 use Rattle.search.specs.Search.{CellFn, after_passes, limit_of}
@@ -45,13 +46,13 @@ module _ (c : FitConfig) (ks ws weights : List Float) where
   none_there true h = absurd (h tt)
   none_there false h = refl
 
-  pub search_fails : (fit_search c ks ws weights).refused ≡ true → FacelessPass c ks ws weights
+  pub search_fails : is_refused (fit_search c ks ws weights) ≡ true → FacelessPass c ks ws weights
   unfolding fit_search plan_of
   search_fails h =
       let r = refusal cells plan (limit_of plan) h in
       (r.pass, omega (arith, r.last), λ i j l m. none_there _ (r.none i l j m))
 
-  pub search_refutes : (fit_search c ks ws weights).refused ≡ false → FacelessPass c ks ws weights → ⊥
+  pub search_refutes : is_refused (fit_search c ks ws weights) ≡ false → FacelessPass c ks ws weights → ⊥
   unfolding fit_search plan_of
   search_refutes h s =
       let w = (after_passes cells plan s.0).window in
@@ -62,16 +63,16 @@ module _ (c : FitConfig) (ks ws weights : List Float) where
 -- ---- 8
 
 -- a reading that is not good is a refusal of `eval`
-no_reading : (e : Evaluated) → (reading_of e).ok ≡ false → (n : ℕ) × (e ≡ evaluated.Refused n)
-no_reading (evaluated.At v) h = false_true (sym h)
-no_reading (evaluated.Refused n) h = (n, refl)
+no_reading : (e : Result Values ℕ) → is_some (reading_of e) ≡ false → (n : ℕ) × (e ≡ Err n)
+no_reading (Ok v) h = false_true (sym h)
+no_reading (Err n) h = (n, refl)
 
-refused_reading : (e : Evaluated) (n : ℕ) → e ≡ evaluated.Refused n → (reading_of e).ok ≡ false
-refused_reading e n h = ap (λ (e : Evaluated). (reading_of e).ok) h
+refused_reading : (e : Result Values ℕ) (n : ℕ) → e ≡ Err n → is_some (reading_of e) ≡ false
+refused_reading e n h = ap (λ (e : Result Values ℕ). is_some (reading_of e)) h
 
 module _ (s : SviSlice) (ks ws weights : List Float) where
   abbrev reads : ℕ → Bool
-  reads i = (reading_of (eval_raw s (at ks i))).ok
+  reads i = is_some (reading_of (eval_raw s (at ks i)))
 
   abbrev zeros : Sums
   zeros = record { ok = true; squares = +0; params = +0; weight = +0 }

@@ -10,6 +10,7 @@ use lib.Dec.{eqb, leb}
 use lib.ListN.{length}
 use lib.Ieee.{Float}
 use borrow.Author.Tests.{eq-eqb, ne_eqb, leb-true, leb-false, le-leb, lt-leb}
+use Rattle.moves.specs.Moves.{is_refused}
 use Rattle.laws.specs.Choice.{unless}
 use Rattle.laws.specs.Some.{Some}
 use Rattle.laws.specs.Floats.{at, positive}
@@ -209,7 +210,7 @@ module _ (tau : Float) (c : FitConfig) (ks ws weights : List Float) (room slots 
   late_told c8 =
       let high = a_max_for c ws in
       let o = (search_for c ks ws weights).found.cell.objective in
-      cond_test (Told 12) (search_for c ks ws weights).refused
+      cond_test (Told 12) (is_refused (search_for c ks ws weights))
       (λ h. inr (when.no_face refl (late.search_fails c ks ws scaled h), c8))
       (λ e. let c9 = next 8 (late.search_refutes c ks ws scaled e) c8 in
       cond_test (Told 12) (search_for c ks ws weights).found.on_edge

@@ -14,9 +14,9 @@ use Rattle.search.proofs.SearchCounts.{most_faces, most_updates, roomy}
 use Rattle.search.proofs.FitCells.{fit_most, fit_few}
 use Rattle.records.specs.declared.FitConfig.{FitConfig}
 use Rattle.records.specs.declared.FitAnswer.{FitAnswer}
+use Rattle.records.specs.Answer.{no_counts, refused_with}
 use Rattle.records.specs.Settings.{defaults_of}
 use Rattle.entry.specs.Entry.{entry_number}
-use Rattle.records.specs.Answer.{no_counts, refused_with}
 use Rattle.calibrate.specs.Fit.{plan_of, scaled_for, limits_for, plan_for, search_for, fit_search, fit_of}
 use Rattle.calibrate.specs.Searched.{SizedCounts, DefaultCounts}
 use Rattle.entry.proofs.Known.{passed, entered}

@@ -15,7 +15,7 @@ use Rattle.moves.specs.declared.Found.{Found}
 use Rattle.moves.specs.declared.Place.{Place}
 use Rattle.moves.specs.declared.Plan.{Plan}
 use Rattle.moves.specs.declared.Search.{Search}
-use Rattle.moves.specs.Moves.{place_of, found_of, improves, recentred, shrunk, stopped, moved_of}
+use Rattle.moves.specs.Moves.{is_going, is_refused, place_of, found_of, improves, recentred, shrunk, stopped, moved_of}
 use Rattle.search.specs.Search.{CellFn, pass_of, counted_of, search_refused, step_of, start_of, after_passes}
 use Rattle.search.specs.Promised.{cell_of_pass}
 use Rattle.search.proofs.Passes.{AsGood, Proper, later_old, later_new, pass_new, pass_of_lem}
@@ -36,15 +36,15 @@ pub moved_found : (p : Plan) (s : Search) (n : Counts) (b : PassBest) → (moved
 unfolding recentred shrunk stopped
 moved_found p s n b = moved_ind (λ (r : Search). r.found ≡ found_of b (place_of p s.window b) s.found) p s n b (λ e. refl) (λ e. refl) refl
 
-moved_accepts : (p : Plan) (s : Search) (n : Counts) (b : PassBest) → (moved_of p s n b).refused ≡ false
+moved_accepts : (p : Plan) (s : Search) (n : Counts) (b : PassBest) → is_refused (moved_of p s n b) ≡ false
 unfolding recentred shrunk stopped
-moved_accepts p s n b = moved_ind (λ (r : Search). r.refused ≡ false) p s n b (λ e. refl) (λ e. refl) refl
+moved_accepts p s n b = moved_ind (λ (r : Search). is_refused r ≡ false) p s n b (λ e. refl) (λ e. refl) refl
 
 found_cell : (b : PassBest) (a : Place) (o : Found) → (found_of b a o).cell ≡ cond (improves b.cell o.cell) b.cell o.cell
 unfolding found_of
 found_cell b a o = go (improves b.cell o.cell)
   where
-    go : (x : Bool) → (cond x (record { cell = b.cell; m = a.m; ls = a.ls; on_edge = a.on_any_edge }) o).cell ≡ cond x b.cell o.cell
+    go : (x : Bool) → (cond x (record { cell = b.cell; m = a.m.point; ls = a.s.point; on_edge = a.m.edge || a.s.edge }) o).cell ≡ cond x b.cell o.cell
     go true = refl
     go false = refl
 
@@ -65,37 +65,37 @@ module _ (f : CellFn) (p : Plan) (s : Search) where
       go false = refl
 
   -- it refuses exactly where the pass has no face
-  pub step_refused : (step_of f p s).refused ≡ not best.cell.some
+  pub step_refused : is_refused (step_of f p s) ≡ not best.cell.some
   unfolding step_of search_refused best
   step_refused = go best.cell.some
     where
       n : Counts
       n = counted_of s.counts best
 
-      go : (x : Bool) → (cond x (moved_of p s n best) (search_refused s n)).refused ≡ not x
+      go : (x : Bool) → is_refused (cond x (moved_of p s n best) (search_refused s n)) ≡ not x
       go true = moved_accepts p s n best
       go false = refl
 
   -- and what refuses goes no further
-  pub step_open : (step_of f p s).going ≡ true → (step_of f p s).refused ≡ false
+  pub step_open : is_going (step_of f p s) ≡ true → is_refused (step_of f p s) ≡ false
   unfolding step_of search_refused best
   step_open = go best.cell.some
     where
       n : Counts
       n = counted_of s.counts best
 
-      go : (x : Bool) → (cond x (moved_of p s n best) (search_refused s n)).going ≡ true → (cond x (moved_of p s n best) (search_refused s n)).refused ≡ false
+      go : (x : Bool) → is_going (cond x (moved_of p s n best) (search_refused s n)) ≡ true → is_refused (cond x (moved_of p s n best) (search_refused s n)) ≡ false
       go true e = moved_accepts p s n best
       go false e = false_true e
 
-  step_some : (step_of f p s).refused ≡ false → T best.cell.some
+  step_some : is_refused (step_of f p s) ≡ false → T best.cell.some
   step_some e = go best.cell.some (sym step_refused ∙ e)
     where
       go : (x : Bool) → not x ≡ false → T x
       go true h = tt
       go false h = false_true (sym h)
 
-  step_yields : (step_of f p s).refused ≡ false → T (step_of f p s).found.cell.some
+  step_yields : is_refused (step_of f p s) ≡ false → T (step_of f p s).found.cell.some
   step_yields e = rw step_cell (rw (T-is best.cell.some (step_some e)) (later s.found.cell.some (le best.cell.objective s.found.cell.objective) refl))
     where
       later : (y z : Bool) → s.found.cell.some ≡ y → T (cond (not y || z) best.cell s.found.cell).some
@@ -118,9 +118,9 @@ module _ (f : CellFn) (p : Plan) where
     pub found : 0 < s.counts.passes → T s.found.cell.some
 
   record Verdict (q : ℕ) (s : Search) : Type 0 where
-    unrefused : s.going ≡ true → s.refused ≡ false
-    refusal : s.refused ≡ true → Refusal s
-    yields : s.refused ≡ false → Yield s
+    unrefused : is_going s ≡ true → is_refused s ≡ false
+    refusal : is_refused s ≡ true → Refusal s
+    yields : is_refused s ≡ false → Yield s
 
   verdict : (q : ℕ) → Verdict q (after_passes f p q)
   unfolding start_of best
@@ -151,13 +151,13 @@ module _ (f : CellFn) (p : Plan) where
       no_face false e t = t
 
   -- a search that goes on did not refuse
-  pub going_on : (q : ℕ) → (after_passes f p q).going ≡ true → (after_passes f p q).refused ≡ false
+  pub going_on : (q : ℕ) → is_going (after_passes f p q) ≡ true → is_refused (after_passes f p q) ≡ false
   going_on q = (verdict q).unrefused
 
-  pub refusal : (q : ℕ) → (after_passes f p q).refused ≡ true → Refusal (after_passes f p q)
+  pub refusal : (q : ℕ) → is_refused (after_passes f p q) ≡ true → Refusal (after_passes f p q)
   refusal q = (verdict q).refusal
 
-  pub yields : (q : ℕ) → (after_passes f p q).refused ≡ false → Yield (after_passes f p q)
+  pub yields : (q : ℕ) → is_refused (after_passes f p q) ≡ false → Yield (after_passes f p q)
   yields q = (verdict q).yields
 
 module _ (f : CellFn) (ok : (m ls : Float) → Proper (f m ls)) (p : Plan) where

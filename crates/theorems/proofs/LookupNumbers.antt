@@ -12,20 +12,17 @@ use Rattle.laws.specs.Floats.{+0, finite, positive}
 use Rattle.laws.proofs.Choices.{cond_ind}
 use Rattle.laws.proofs.Loops.{for_keeps}
 use Rattle.slice.specs.declared.SviSlice.{SviSlice}
-use Rattle.slice.specs.declared.Evaluated.{Evaluated}
-use Rattle.slice.specs.declared.Evaluated.TheVariants as evaluated
+use Rattle.slice.specs.declared.Values.{Values}
 use Rattle.slice.specs.Slice.{three_finite, values_of, judged_of, eval_raw, number_of}
 use Rattle.slice.proofs.TestsFirst.{number_21_to_28}
-use Rattle.point.specs.declared.Total.TheVariants as total
 use Rattle.point.specs.declared.TotalVariance.{TotalVariance}
 use Rattle.point.specs.Point.{point_number, total_number, total_of}
 use Rattle.surface.specs.declared.types.Run.{Run}
 use Rattle.surface.specs.declared.types.Bracket.{Bracket}
-use Rattle.surface.specs.declared.types.Bracket.TheVariants.{Segment, Short, Refused}
-use Rattle.surface.specs.declared.types.Region.TheVariants as region
+use Rattle.surface.specs.declared.types.Bracket.TheVariants.{Segment, Short}
 use Rattle.surface.specs.Runs.{slice_at, taus_of, bad_turn, first_bad, rises_of, check_run}
-use Rattle.surface.specs.Lookup.{on_node}
-use Rattle.surface.specs.Surface.{both_hold, region_by, region_in, mixed_of, short_scaled, blend_of, short_in, segment_of, short_from, variance_in}
+use Rattle.surface.specs.Surface.{region_in, mixed_of, short_scaled, blend_of, short_in, segment_of, short_from, variance_in}
+use Rattle.std.specs.Prelude.{Result, Ok, Err}
 
 -- where a number may refuse, an answer is that refusal or the rest's
 pub either : {A : Type 0} (number : ℕ) (refusal : ℕ → A) (rest x : A) → refusing number refusal rest ≡ x → (refusal number ≡ x) ⊎ (rest ≡ x)
@@ -69,7 +66,7 @@ point_number_lem k tau = cond_ind Few (finite k) (cond_ind Few (positive tau) (o
 
 -- ---- an evaluation, a total variance
 
-eval_number : (s : SviSlice) (k : Float) (n : ℕ) → eval_raw s k ≡ evaluated.Refused n → n ≤ 31
+eval_number : (s : SviSlice) (k : Float) (n : ℕ) → eval_raw s k ≡ Err n → n ≤ 31
 unfolding eval_raw judged_of
 eval_number s k n =
     cond_ind Few (finite k)
@@ -78,8 +75,8 @@ eval_number s k n =
     (λ e. let z : 30 ≡ n = cc in omega (arith, z)))
     (λ e. let z : 29 ≡ n = cc in omega (arith, z))
   where
-    Few : Evaluated → Type 0
-    Few r = r ≡ evaluated.Refused n → n ≤ 31
+    Few : Result Values ℕ → Type 0
+    Few r = r ≡ Err n → n ≤ 31
 
 -- those of an evaluation, and those of a total variance
 abbrev pub Valued : ℕ → Type 0
@@ -95,49 +92,40 @@ own v =
 pub not_valued : (n : ℕ) → 32 ≤ n → n ≤ 37 → Valued n → ⊥
 not_valued n l h v = ⊎_elim (λ (m : n ≤ 31). omega (arith, l, m)) (λ (p : (38 ≤ n) × (n ≤ 39)). let m = p.0 in omega (arith, h, m)) v
 
-total_number_lem : (w wk wkk wtau : Float) (n : ℕ) → total_of w wk wkk wtau ≡ total.Refused n → Valued n
+total_number_lem : (w wk wkk wtau : Float) (n : ℕ) → total_of w wk wkk wtau ≡ Err n → Valued n
 unfolding total_of
 total_number_lem w wk wkk wtau n e =
     ⊎_elim
-    (λ (h : total.Refused (total_number v) ≡ total.Refused n). let z : total_number v ≡ n = cc in subst Valued z (own v))
-    (λ (h : total.At v ≡ total.Refused n). let z : ◌≡◌ {A = ℕ} 0 1 = cc in absurd (omega arith))
-    (either (total_number v) total.Refused (total.At v) (total.Refused n) e)
+    (λ (h : Err (total_number v) ≡ Err n). let z : total_number v ≡ n = cc in subst Valued z (own v))
+    (λ (h : Ok v ≡ Err n). let z : ◌≡◌ {A = ℕ} 0 1 = cc in absurd (omega arith))
+    (either (total_number v) Err (Ok v) (Err n) e)
   where
     v : TotalVariance
     v = record { w = w; w_k = wk; w_kk = wkk; w_tau = wtau }
 
-blend_number : (l h : Evaluated) (x gap : Float) (n : ℕ) → (l ≡ evaluated.Refused n → n ≤ 31) → (h ≡ evaluated.Refused n → n ≤ 31) → blend_of l h x gap ≡ total.Refused n → Valued n
+blend_number : (l h : Result Values ℕ) (x gap : Float) (n : ℕ) → (l ≡ Err n → n ≤ 31) → (h ≡ Err n → n ≤ 31) → blend_of l h x gap ≡ Err n → Valued n
 unfolding mixed_of
-blend_number (evaluated.Refused m) h x gap n p q e = inl (p (let z : m ≡ n = cc in ap evaluated.Refused z))
-blend_number (evaluated.At l) (evaluated.Refused m) x gap n p q e = inl (q (let z : m ≡ n = cc in ap evaluated.Refused z))
-blend_number (evaluated.At l) (evaluated.At h) x gap n p q e = total_number_lem _ _ _ _ n e
+blend_number (Err m) h x gap n p q e = inl (p (let z : m ≡ n = cc in ap Err z))
+blend_number (Ok l) (Err m) x gap n p q e = inl (q (let z : m ≡ n = cc in ap Err z))
+blend_number (Ok l) (Ok h) x gap n p q e = total_number_lem _ _ _ _ n e
 
-scaled_number : (r : Evaluated) (tau first : Float) (n : ℕ) → (r ≡ evaluated.Refused n → n ≤ 31) → short_in r tau first ≡ total.Refused n → Valued n
+scaled_number : (r : Result Values ℕ) (tau first : Float) (n : ℕ) → (r ≡ Err n → n ≤ 31) → short_in r tau first ≡ Err n → Valued n
 unfolding short_scaled
-scaled_number (evaluated.Refused m) tau first n p e = inl (p (let z : m ≡ n = cc in ap evaluated.Refused z))
-scaled_number (evaluated.At v) tau first n p e = total_number_lem _ _ _ _ n e
+scaled_number (Err m) tau first n p e = inl (p (let z : m ≡ n = cc in ap Err z))
+scaled_number (Ok v) tau first n p e = total_number_lem _ _ _ _ n e
 
 -- ---- a node answers
-
-pub node_answers : (j n : ℕ) → on_node j ≡ Refused n → ⊥
-unfolding on_node
-node_answers j n e = cond_ind (λ (b : Bracket). b ≡ Refused n → ⊥) (eqb j 0) (λ e. let z : ◌≡◌ {A = ℕ} 0 1 = cc in omega arith) (λ e. let z : ◌≡◌ {A = ℕ} 0 1 = cc in omega arith) e
 
 -- ---- what is handed on
 
 -- a region refuses where the bracket does, with its number
-pub region_from : (recs : List SviSlice) (b : Bracket) (k : Float) (n : ℕ) → region_in recs b k ≡ region.Refused n → b ≡ Refused n
-region_from recs (Segment lo hi x) k n e = absurd (never (both_hold (slice_at recs lo) (slice_at recs hi) k) e)
-  where
-    never : (b : Bool) → region_by b ≡ region.Refused n → ⊥
-    never true e = let z : ◌≡◌ {A = ℕ} 0 1 = cc in omega arith
-    never false e = let z : ◌≡◌ {A = ℕ} 0 1 = cc in omega arith
-region_from recs Short k n e = let z : ◌≡◌ {A = ℕ} 0 1 = cc in absurd (omega arith)
-region_from recs (Refused m) k n e = let z : m ≡ n = cc in ap Refused z
+pub region_from : (recs : List SviSlice) (b : Result Bracket ℕ) (k : Float) (n : ℕ) → region_in recs b k ≡ Err n → b ≡ Err n
+region_from recs (Ok b) k n e = let z : ◌≡◌ {A = ℕ} 0 1 = cc in absurd (omega arith)
+region_from recs (Err m) k n e = let z : m ≡ n = cc in ap Err z
 
 -- a total variance refuses where the bracket does, or with a number of its own
-pub variance_from : (recs : List SviSlice) (b : Bracket) (k tau : Float) (n : ℕ) → variance_in recs b k tau ≡ total.Refused n → (b ≡ Refused n) ⊎ Valued n
+pub variance_from : (recs : List SviSlice) (b : Result Bracket ℕ) (k tau : Float) (n : ℕ) → variance_in recs b k tau ≡ Err n → (b ≡ Err n) ⊎ Valued n
 unfolding segment_of short_from
-variance_from recs (Segment lo hi x) k tau n e = inr (blend_number (eval_raw (slice_at recs lo) k) (eval_raw (slice_at recs hi) k) x _ n (eval_number (slice_at recs lo) k n) (eval_number (slice_at recs hi) k n) e)
-variance_from recs Short k tau n e = inr (scaled_number (eval_raw (slice_at recs 0) k) tau _ n (eval_number (slice_at recs 0) k n) e)
-variance_from recs (Refused m) k tau n e = let z : m ≡ n = cc in inl (ap Refused z)
+variance_from recs (Ok (Segment lo hi x)) k tau n e = inr (blend_number (eval_raw (slice_at recs lo) k) (eval_raw (slice_at recs hi) k) x _ n (eval_number (slice_at recs lo) k n) (eval_number (slice_at recs hi) k n) e)
+variance_from recs (Ok Short) k tau n e = inr (scaled_number (eval_raw (slice_at recs 0) k) tau _ n (eval_number (slice_at recs 0) k n) e)
+variance_from recs (Err m) k tau n e = let z : m ≡ n = cc in inl (ap Err z)

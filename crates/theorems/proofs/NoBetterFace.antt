@@ -13,7 +13,7 @@ use Rattle.cell.specs.declared.Cell.{Cell}
 use Rattle.cell.specs.Choice.{Beats}
 use Rattle.moves.specs.declared.Plan.{Plan}
 use Rattle.moves.specs.declared.Search.{Search}
-use Rattle.moves.specs.Moves.{axis_point}
+use Rattle.moves.specs.Moves.{is_going, axis_point}
 use Rattle.search.specs.Search.{CellFn, pass_of, after_passes, limit_of, search_of}
 use Rattle.search.specs.Promised.{FaceFn, UpdatesFn, ChosenFrom, cell_of_pass, face_of_pass, updates_of_pass, Qualifies, Yields, ChosenFace, Promised}
 use Rattle.search.proofs.Passes.{AsGood, Proper, pass_stands}
@@ -81,7 +81,7 @@ module _ (f : CellFn) (g : FaceFn) (u : UpdatesFn) (top most : ℕ) (from : Chos
   -- a pass before the last one made: the search went on after it
   before_last : (q : ℕ) → q + 1 < (search_of f p).counts.passes → Yields f g p q
   before_last q l =
-      let on : (after_passes f p (q + 1)).going ≡ true = (trail f p (limit_of p)).made (q + 1) l in
+      let on : is_going (after_passes f p (q + 1)) ≡ true = (trail f p (limit_of p)).made (q + 1) l in
       let n = (trail f p (q + 1)).on on in
       pass_yields q ((yields f p (q + 1) (going_on f p (q + 1) on)).each q (omega (arith, n)))
 

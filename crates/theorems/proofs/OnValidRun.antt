@@ -16,13 +16,10 @@ use Rattle.laws.proofs.Choices.{if_false, both, passed_one, number_goes}
 use Rattle.laws.proofs.Floats.{self_same}
 use Rattle.laws.proofs.Order.{le_self}
 use Rattle.laws.proofs.Signs.{signed_no_nan}
-use Rattle.point.specs.declared.Total.TheVariants as total
 use Rattle.point.specs.Point.{point_number}
 use Rattle.surface.specs.declared.types.Run.{Run}
 use Rattle.surface.specs.declared.types.ShortExpiryPolicy.{ShortExpiryPolicy}
 use Rattle.surface.specs.declared.types.Bracket.{Bracket}
-use Rattle.surface.specs.declared.types.Bracket.TheVariants.{Refused}
-use Rattle.surface.specs.declared.types.Region.TheVariants as region
 use Rattle.surface.specs.Runs.{slice_at, taus_of, check_run}
 use Rattle.surface.specs.Lookup.{near_of, lookup_of, bracket_of}
 use Rattle.surface.specs.Surface.{region_in, variance_in, variance_at, tols_of, bracket_in, bracket_run, region_run, total_run}
@@ -30,6 +27,7 @@ use Rattle.surface.specs.Last.{TausFit}
 use Rattle.theorems.proofs.LookupNumbers.{Valued, region_from, variance_from}
 use Rattle.theorems.proofs.Spans.{from_true, not_below, positive_of, gap_units, quarter_signed, out_of_reach, out_of_reach_under}
 use Rattle.theorems.proofs.ValidRun.{tau_positive, Valid, valid_run}
+use Rattle.std.specs.Prelude.{Result, Err}
 
 -- ---- searches
 
@@ -118,22 +116,22 @@ module _ (run : Run) (valid : check_run run ≡ 0) (k tau : Float) (point : poin
 
     region_is : region_run run policy k tau ≡ region_in run.recs (bracket_run run policy k tau) k
     unfolding region_run
-    region_is = sym (number_goes _ refl valid (ap (λ (b : Bracket). region_in run.recs b k) bracket_is))
+    region_is = sym (number_goes _ refl valid (ap (λ (b : Result Bracket ℕ). region_in run.recs b k) bracket_is))
 
     total_is : total_run run policy k tau ≡ variance_in run.recs (bracket_run run policy k tau) k tau
     unfolding total_run variance_at bracket_in
-    total_is = sym (number_goes _ refl valid (ap (λ (b : Bracket). variance_in run.recs b k tau) bracket_is))
+    total_is = sym (number_goes _ refl valid (ap (λ (b : Result Bracket ℕ). variance_in run.recs b k tau) bracket_is))
 
     module _ (c : ℕ) where
-      pub region_as_bracket : (region_run run policy k tau ≡ region.Refused c) ↔ (bracket_run run policy k tau ≡ Refused c)
+      pub region_as_bracket : (region_run run policy k tau ≡ Err c) ↔ (bracket_run run policy k tau ≡ Err c)
       region_as_bracket = (
         λ e. region_from run.recs (bracket_run run policy k tau) k c (sym region_is ∙ e),
-        λ e. region_is ∙ ap (λ (b : Bracket). region_in run.recs b k) e,
+        λ e. region_is ∙ ap (λ (b : Result Bracket ℕ). region_in run.recs b k) e,
       )
 
       -- where the number is none of an evaluation or of a total variance
-      pub total_as_bracket : (Valued c → ⊥) → (total_run run policy k tau ≡ total.Refused c) ↔ (bracket_run run policy k tau ≡ Refused c)
+      pub total_as_bracket : (Valued c → ⊥) → (total_run run policy k tau ≡ Err c) ↔ (bracket_run run policy k tau ≡ Err c)
       total_as_bracket never = (
-        λ e. ⊎_elim (λ (b : bracket_run run policy k tau ≡ Refused c). b) (λ (v : Valued c). absurd (never v)) (variance_from run.recs (bracket_run run policy k tau) k tau c (sym total_is ∙ e)),
-        λ e. total_is ∙ ap (λ (b : Bracket). variance_in run.recs b k tau) e,
+        λ e. ⊎_elim (λ (b : bracket_run run policy k tau ≡ Err c). b) (λ (v : Valued c). absurd (never v)) (variance_from run.recs (bracket_run run policy k tau) k tau c (sym total_is ∙ e)),
+        λ e. total_is ∙ ap (λ (b : Result Bracket ℕ). variance_in run.recs b k tau) e,
       )

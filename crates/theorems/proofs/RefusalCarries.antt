@@ -8,6 +8,7 @@ use lib.Dec.{eqb, leb}
 use lib.ListN.{length}
 use lib.Ieee.{Float, le}
 use borrow.Author.Tests.{eqb-true, eqb-false}
+use Rattle.moves.specs.Moves.{is_refused}
 use Rattle.laws.specs.Floats.{+0, finite, positive}
 use Rattle.laws.proofs.Choices.{both, cond_ind, cond_test}
 use Rattle.slice.specs.Slice.{number_of}
@@ -15,9 +16,9 @@ use Rattle.records.specs.declared.Counts.{Counts}
 use Rattle.weights.specs.Weights.{all_good, capped_of}
 use Rattle.records.specs.declared.FitConfig.{FitConfig}
 use Rattle.records.specs.declared.FitAnswer.{FitAnswer}
+use Rattle.records.specs.Answer.{no_counts, refused_with, refused_after}
 use Rattle.records.specs.Settings.{settings_hold, sizes_hold}
 use Rattle.entry.specs.Entry.{range_of, lengths_hold, columns_pass, span_of, checks_number, entry_number}
-use Rattle.records.specs.Answer.{no_counts, refused_with, refused_after}
 use Rattle.judge.specs.Judge.{sums_of, params_hold, rmse_holds}
 use Rattle.calibrate.specs.End.{accepted_of, end_of}
 use Rattle.calibrate.specs.Fit.{a_max_for, scaled_for, search_for, slice_from, best_end, search_end, decided_of, refused_early, capped_as, fit_of}
@@ -80,7 +81,7 @@ module _ (tau : Float) (c : FitConfig) (ks ws weights : List Float) (room slots 
   unfolding decided_of search_end best_end end_of refusal_answer refused_with accepted_of rmse_holds
   late =
       let t = slice_from tau c (range_of ks) (a_max_for c ws) (search_for c ks ws weights).found in
-      cond_ind Late (search_for c ks ws weights).refused (record { refused = λ h. refl; accepted = λ e. absurd (omega arith) })
+      cond_ind Late (is_refused (search_for c ks ws weights)) (record { refused = λ h. refl; accepted = λ e. absurd (omega arith) })
       (cond_ind Late (search_for c ks ws weights).found.on_edge (record { refused = λ h. refl; accepted = λ e. absurd (omega arith) })
       (cond_ind Late (eqb (number_of t) 0)
       (cond_ind Late (params_hold c (a_max_for c ws) (search_for c ks ws weights).found.cell.objective (sums_of t ks ws scaled))

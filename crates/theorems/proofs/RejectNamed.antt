@@ -15,26 +15,21 @@ use Rattle.laws.specs.Floats.{num, at, finite}
 use Rattle.laws.proofs.Choices.{cond_ind}
 use Rattle.laws.proofs.Ops.{num_value}
 use Rattle.slice.specs.declared.SviSlice.{SviSlice}
-use Rattle.point.specs.declared.Total.{Total}
-use Rattle.point.specs.declared.Total.TheVariants as total
+use Rattle.point.specs.declared.TotalVariance.{TotalVariance}
 use Rattle.point.specs.Point.{point_number}
 use Rattle.surface.specs.declared.types.Run.{Run}
 use Rattle.surface.specs.declared.types.ShortExpiryPolicy.{ShortExpiryPolicy}
 use Rattle.surface.specs.declared.types.ShortExpiryPolicy.TheVariants.{Reject, ConstantVol}
 use Rattle.surface.specs.declared.types.Bracket.{Bracket}
-use Rattle.surface.specs.declared.types.Bracket.TheVariants.{Segment, Short, Refused}
 use Rattle.surface.specs.declared.types.Region.{Region}
-use Rattle.surface.specs.declared.types.Region.TheVariants as region
 use Rattle.surface.specs.Runs.{taus_of, check_run}
 use Rattle.surface.specs.Lookup.{node_of, beyond_of, short_of, inside_of, lookup_of, bracket_of}
 use Rattle.surface.specs.Surface.{region_in, variance_at, tols_of, bracket_in, bracket_run, region_run, total_run, surface_grid_number}
 use Rattle.surface.specs.Axis.{rising_of, all_positive, grid_number}
-use Rattle.diagnostics.specs.declared.points.Seen.{Seen}
-use Rattle.diagnostics.specs.declared.points.Seen.TheVariants.{Good, Failed}
+use Rattle.diagnostics.specs.declared.points.Reading.{Reading}
 use Rattle.diagnostics.specs.declared.report.DiagnosticsConfig.{DiagnosticsConfig}
 use Rattle.diagnostics.specs.declared.report.SurfaceDiagnostics.{SurfaceDiagnostics}
-use Rattle.diagnostics.specs.declared.report.Diagnosed.{Diagnosed}
-use Rattle.diagnostics.specs.declared.report.Diagnosed.TheVariants as diagnosed
+use Rattle.diagnostics.specs.declared.report.SurfaceDiagnostics.{SurfaceDiagnostics}
 use Rattle.diagnostics.specs.Walk.{butterfly_of, seen_of, seen_on}
 use Rattle.diagnostics.specs.OnGrid.{failure_of, failures_on, seen_by}
 use Rattle.diagnostics.specs.Diagnostics.{tolerable, tolerance_number, diagnose_number, diagnose_of, diagnosed_number}
@@ -42,7 +37,8 @@ use Rattle.diagnostics.proofs.FailuresInOrder.{failures_in_order, failures_count
 use Rattle.diagnostics.proofs.RefusalKeepsRoom.{number_of_answer}
 use Rattle.rows.proofs.PolicyNumbers.{reject_named}
 use Rattle.rows.specs.Answers.{policy_of, bracket_answer, region_answer, total_answer, diagnosed_answer, bracket_for, region_for, total_for, grid_config, diagnosed_for, room_for}
-use Rattle.theorems.proofs.LookupNumbers.{either, node_answers, run_number, point_number_lem, Valued, region_from, variance_from}
+use Rattle.theorems.proofs.LookupNumbers.{either, run_number, point_number_lem, Valued, region_from, variance_from}
+use Rattle.std.specs.Prelude.{Result, Ok, Err}
 
 -- ---- the policy handed in
 
@@ -60,38 +56,38 @@ module _ (policy : ShortExpiryPolicy) where
   valued : (n : ℕ) → Valued n → Named n
   valued n v = ⊎_elim (λ (l : n ≤ 31). low n (omega (arith, l))) (λ (p : (38 ≤ n) × (n ≤ 39)). let l = p.0 in let h = p.1 in high n (omega (arith, l)) (omega (arith, h))) v
 
-  short_named : (p : ShortExpiryPolicy) → policy ≡ p → (n : ℕ) → short_of p ≡ Refused n → Named n
+  short_named : (p : ShortExpiryPolicy) → policy ≡ p → (n : ℕ) → short_of p ≡ Err n → Named n
   short_named Reject h n e = let z : 36 ≡ n = cc in (omega (arith, z), λ _. h)
   short_named ConstantVol h n e = let z : ◌≡◌ {A = ℕ} 0 1 = cc in absurd (omega arith)
 
-  lookup_named : (taus tols : List Float) (m : ℕ) (tau : Float) (n : ℕ) → lookup_of taus tols m policy tau ≡ Refused n → Named n
+  lookup_named : (taus tols : List Float) (m : ℕ) (tau : Float) (n : ℕ) → lookup_of taus tols m policy tau ≡ Err n → Named n
   unfolding lookup_of inside_of
   lookup_named taus tols m tau n =
       cond_ind To (ltb (node_of taus tols m tau) m)
-      (λ e. absurd (node_answers (node_of taus tols m tau) n e))
+      (λ e. let z : ◌≡◌ {A = ℕ} 0 1 = cc in absurd (omega arith))
       (cond_ind To (lt tau (at taus 0)) (short_named policy refl n)
       (cond_ind To (ltb (beyond_of taus m tau) m) (λ e. let z : ◌≡◌ {A = ℕ} 0 1 = cc in absurd (omega arith)) (λ e. let z : 37 ≡ n = cc in high n (omega (arith, z)) (omega (arith, z)))))
     where
-      To : Bracket → Type 0
-      To b = b ≡ Refused n → Named n
+      To : Result Bracket ℕ → Type 0
+      To b = b ≡ Err n → Named n
 
-  bracket_named : (taus tols : List Float) (m : ℕ) (k tau : Float) (n : ℕ) → bracket_of taus tols m policy k tau ≡ Refused n → Named n
+  bracket_named : (taus tols : List Float) (m : ℕ) (k tau : Float) (n : ℕ) → bracket_of taus tols m policy k tau ≡ Err n → Named n
   unfolding bracket_of
   bracket_named taus tols m k tau n =
       cond_ind To (ltb 32 m) (λ e. let z : 11 ≡ n = cc in low n (omega (arith, z)))
       (λ e. ⊎_elim
-      (λ (h : Refused (point_number k tau) ≡ Refused n). let z : point_number k tau ≡ n = cc in let l = point_number_lem k tau in low n (omega (arith, z, l)))
-      (λ (h : lookup_of taus tols m policy tau ≡ Refused n). lookup_named taus tols m tau n h)
-      (either (point_number k tau) Refused (lookup_of taus tols m policy tau) (Refused n) e))
+      (λ (h : Err (point_number k tau) ≡ Err n). let z : point_number k tau ≡ n = cc in let l = point_number_lem k tau in low n (omega (arith, z, l)))
+      (λ (h : lookup_of taus tols m policy tau ≡ Err n). lookup_named taus tols m tau n h)
+      (either (point_number k tau) Err (lookup_of taus tols m policy tau) (Err n) e))
     where
-      To : Bracket → Type 0
-      To b = b ≡ Refused n → Named n
+      To : Result Bracket ℕ → Type 0
+      To b = b ≡ Err n → Named n
 
-  variance_named : (recs : List SviSlice) (taus tols : List Float) (m : ℕ) (k tau : Float) (n : ℕ) → variance_at recs taus tols m policy k tau ≡ total.Refused n → Named n
+  variance_named : (recs : List SviSlice) (taus tols : List Float) (m : ℕ) (k tau : Float) (n : ℕ) → variance_at recs taus tols m policy k tau ≡ Err n → Named n
   unfolding variance_at
   variance_named recs taus tols m k tau n e =
       ⊎_elim
-      (λ (h : bracket_of taus tols m policy k tau ≡ Refused n). bracket_named taus tols m k tau n h)
+      (λ (h : bracket_of taus tols m policy k tau ≡ Err n). bracket_named taus tols m k tau n h)
       (λ (v : Valued n). valued n v)
       (variance_from recs (bracket_of taus tols m policy k tau) k tau n e)
 
@@ -102,41 +98,41 @@ module _ (policy : ShortExpiryPolicy) where
     run_named n z = let l = run_number run in low n (omega (arith, z, l))
 
     module _ (k tau : Float) where
-      pub bracket_36 : bracket_run run policy k tau ≡ Refused 36 → policy ≡ Reject
+      pub bracket_36 : bracket_run run policy k tau ≡ Err 36 → policy ≡ Reject
       unfolding bracket_run bracket_in
       bracket_36 e =
           ⊎_elim
-          (λ (h : Refused (check_run run) ≡ Refused 36). let z : check_run run ≡ 36 = cc in (run_named 36 z).1 refl)
-          (λ (h : bracket_in run policy k tau ≡ Refused 36). (bracket_named (taus_of run.recs) (tols_of run) run.count k tau 36 h).1 refl)
-          (either (check_run run) Refused (bracket_in run policy k tau) (Refused 36) e)
+          (λ (h : Err (check_run run) ≡ Err 36). let z : check_run run ≡ 36 = cc in (run_named 36 z).1 refl)
+          (λ (h : bracket_in run policy k tau ≡ Err 36). (bracket_named (taus_of run.recs) (tols_of run) run.count k tau 36 h).1 refl)
+          (either (check_run run) Err (bracket_in run policy k tau) (Err 36) e)
 
-      pub region_36 : region_run run policy k tau ≡ region.Refused 36 → policy ≡ Reject
+      pub region_36 : region_run run policy k tau ≡ Err 36 → policy ≡ Reject
       unfolding region_run bracket_in
       region_36 e =
           ⊎_elim
-          (λ (h : region.Refused (check_run run) ≡ region.Refused 36). let z : check_run run ≡ 36 = cc in (run_named 36 z).1 refl)
-          (λ (h : region_in run.recs (bracket_in run policy k tau) k ≡ region.Refused 36). (bracket_named (taus_of run.recs) (tols_of run) run.count k tau 36 (region_from run.recs (bracket_in run policy k tau) k 36 h)).1 refl)
-          (either (check_run run) region.Refused (region_in run.recs (bracket_in run policy k tau) k) (region.Refused 36) e)
+          (λ (h : Err (check_run run) ≡ Err 36). let z : check_run run ≡ 36 = cc in (run_named 36 z).1 refl)
+          (λ (h : region_in run.recs (bracket_in run policy k tau) k ≡ Err 36). (bracket_named (taus_of run.recs) (tols_of run) run.count k tau 36 (region_from run.recs (bracket_in run policy k tau) k 36 h)).1 refl)
+          (either (check_run run) Err (region_in run.recs (bracket_in run policy k tau) k) (Err 36) e)
 
-      pub total_36 : total_run run policy k tau ≡ total.Refused 36 → policy ≡ Reject
+      pub total_36 : total_run run policy k tau ≡ Err 36 → policy ≡ Reject
       unfolding total_run
       total_36 e =
           ⊎_elim
-          (λ (h : total.Refused (check_run run) ≡ total.Refused 36). let z : check_run run ≡ 36 = cc in (run_named 36 z).1 refl)
-          (λ (h : variance_at run.recs (taus_of run.recs) (tols_of run) run.count policy k tau ≡ total.Refused 36). (variance_named run.recs (taus_of run.recs) (tols_of run) run.count k tau 36 h).1 refl)
-          (either (check_run run) total.Refused (variance_at run.recs (taus_of run.recs) (tols_of run) run.count policy k tau) (total.Refused 36) e)
+          (λ (h : Err (check_run run) ≡ Err 36). let z : check_run run ≡ 36 = cc in (run_named 36 z).1 refl)
+          (λ (h : variance_at run.recs (taus_of run.recs) (tols_of run) run.count policy k tau ≡ Err 36). (variance_named run.recs (taus_of run.recs) (tols_of run) run.count k tau 36 h).1 refl)
+          (either (check_run run) Err (variance_at run.recs (taus_of run.recs) (tols_of run) run.count policy k tau) (Err 36) e)
 
       -- ---- what `diagnose` sees at a point
 
-      seen_from : (t : Total) (n : ℕ) → (t ≡ total.Refused n → Named n) → seen_of t k ≡ Failed n → Named n
-      seen_from (total.Refused m) n p e = let z : m ≡ n = cc in p (ap total.Refused z)
-      seen_from (total.At v) n p e =
-          cond_ind (λ (s : Seen). s ≡ Failed n → Named n) (finite (butterfly_of k v.w v.w_k v.w_kk))
+      seen_from : (t : Result TotalVariance ℕ) (n : ℕ) → (t ≡ Err n → Named n) → seen_of t k ≡ Err n → Named n
+      seen_from (Err m) n p e = let z : m ≡ n = cc in p (ap Err z)
+      seen_from (Ok v) n p e =
+          cond_ind (λ (s : Result Reading ℕ). s ≡ Err n → Named n) (finite (butterfly_of k v.w v.w_k v.w_kk))
           (λ e. let z : ◌≡◌ {A = ℕ} 0 1 = cc in absurd (omega arith))
           (λ e. let z : 30 ≡ n = cc in low n (omega (arith, z)))
           e
 
-      seen_named : (n : ℕ) → seen_by run policy k tau ≡ Failed n → Named n
+      seen_named : (n : ℕ) → seen_by run policy k tau ≡ Err n → Named n
       unfolding seen_on
       seen_named n e = seen_from (variance_at run.recs (taus_of run.recs) (tols_of run) run.count policy k tau) n (variance_named run.recs (taus_of run.recs) (tols_of run) run.count k tau n) e
 
@@ -191,12 +187,12 @@ module _ (run : Run) (policy : ShortExpiryPolicy) (ks taus : List Float) (tol : 
   failure_third : (k tau : Float) → Thirds Third (failure_of k tau (seen_by run policy k tau))
   failure_third k tau = go (seen_by run policy k tau) refl
     where
-      go : (s : Seen) → seen_by run policy k tau ≡ s → Thirds Third (failure_of k tau s)
-      go (Good g w v) e = tt
-      go (Failed n) e = let h = seen_named policy run k tau n e in (λ z. h.1 (num_same n 36 h.0 (omega arith) z), tt)
+      go : (s : Result Reading ℕ) → seen_by run policy k tau ≡ s → Thirds Third (failure_of k tau s)
+      go (Ok r) e = tt
+      go (Err n) e = let h = seen_named policy run k tau n e in (λ z. h.1 (num_same n 36 h.0 (omega arith) z), tt)
 
   -- the number of failure i of a report, the third of its three in the room
-  pub failure_36 : (d : SurfaceDiagnostics) → (diagnose_of run policy ks taus tol room).answer ≡ diagnosed.Done d → (i : ℕ) → i < d.evaluation_failures → at (diagnose_of run policy ks taus tol room).room (3 * i + 2) ≡ num 36 → policy ≡ Reject
+  pub failure_36 : (d : SurfaceDiagnostics) → (diagnose_of run policy ks taus tol room).answer ≡ Ok d → (i : ℕ) → i < d.evaluation_failures → at (diagnose_of run policy ks taus tol room).room (3 * i + 2) ≡ num 36 → policy ≡ Reject
   failure_36 d done i l e =
       let all : List Float = failures_on (seen_by run policy) ks taus in
       let c : length all ≡ 3 * d.evaluation_failures = failures_counted run policy ks taus tol room d done in
@@ -205,7 +201,7 @@ module _ (run : Run) (policy : ShortExpiryPolicy) (ks taus : List Float) (tol : 
       (sym (get_or-append all (drop (length all) room) nan (3 * i + 2) h) ∙ ap (λ (r : List Float). at r (3 * i + 2)) (sym (failures_in_order run policy ks taus tol room d done)) ∙ e)
 
   -- `diagnose` itself is refused with other numbers
-  pub never_36 : (diagnose_of run policy ks taus tol room).answer ≡ diagnosed.Refused 36 → ⊥
+  pub never_36 : (diagnose_of run policy ks taus tol room).answer ≡ Err 36 → ⊥
   unfolding diagnose_number surface_grid_number grid_number tolerance_number
   never_36 e = not_36 (sym (number_of_answer run policy ks taus tol room) ∙ ap diagnosed_number e)
     where
@@ -234,41 +230,39 @@ module _ (run : Run) (p : ℕ) where
     unfolding bracket_for
     port_bracket_36 e = reject_named p (bracket_36 (policy_of p) run k tau (back (bracket_run run (policy_of p) k tau) e))
       where
-        back : (b : Bracket) → (bracket_answer b).number ≡ 36 → b ≡ Refused 36
-        back (Segment lo hi x) e = absurd (omega (arith, e))
-        back Short e = absurd (omega (arith, e))
-        back (Refused n) e = ap Refused e
+        back : (b : Result Bracket ℕ) → (bracket_answer b).number ≡ 36 → b ≡ Err 36
+        back (Ok b) e = absurd (omega (arith, e))
+        back (Err n) e = ap Err e
 
     pub port_region_36 : (region_for run p k tau).number ≡ 36 → p ≡ 0
     unfolding region_for
     port_region_36 e = reject_named p (region_36 (policy_of p) run k tau (back (region_run run (policy_of p) k tau) e))
       where
-        back : (r : Region) → (region_answer r).number ≡ 36 → r ≡ region.Refused 36
-        back region.Calibrated e = absurd (omega (arith, e))
-        back region.Extrapolated e = absurd (omega (arith, e))
-        back (region.Refused n) e = ap region.Refused e
+        back : (r : Result Region ℕ) → (region_answer r).number ≡ 36 → r ≡ Err 36
+        back (Ok r) e = absurd (omega (arith, e))
+        back (Err n) e = ap Err e
 
     pub port_total_36 : (total_for run p k tau).number ≡ 36 → p ≡ 0
     unfolding total_for
     port_total_36 e = reject_named p (total_36 (policy_of p) run k tau (back (total_run run (policy_of p) k tau) e))
       where
-        back : (t : Total) → (total_answer t).number ≡ 36 → t ≡ total.Refused 36
-        back (total.At v) e = absurd (omega (arith, e))
-        back (total.Refused n) e = ap total.Refused e
+        back : (t : Result TotalVariance ℕ) → (total_answer t).number ≡ 36 → t ≡ Err 36
+        back (Ok v) e = absurd (omega (arith, e))
+        back (Err n) e = ap Err e
 
   module _ (ks taus : List Float) (butterfly calendar : Float) (room : List Float) where
-    pub port_failure_36 : (i : ℕ) → i < (diagnosed_for run p ks taus butterfly calendar room).report.evaluation_failures → at (room_for run p ks taus butterfly calendar room) (3 * i + 2) ≡ num 36 → p ≡ 0
+    pub port_failure_36 : (i : ℕ) → i < (diagnosed_for run p ks taus butterfly calendar room).value.evaluation_failures → at (room_for run p ks taus butterfly calendar room) (3 * i + 2) ≡ num 36 → p ≡ 0
     unfolding diagnosed_for room_for
     port_failure_36 i l e = reject_named p (go (diagnose_of run (policy_of p) ks taus (grid_config butterfly calendar) room).answer refl l)
       where
-        go : (a : Diagnosed) → (diagnose_of run (policy_of p) ks taus (grid_config butterfly calendar) room).answer ≡ a → i < (diagnosed_answer a).report.evaluation_failures → policy_of p ≡ Reject
-        go (diagnosed.Done d) done l = failure_36 run (policy_of p) ks taus (grid_config butterfly calendar) room d done i l e
-        go (diagnosed.Refused n) done l = absurd (omega (arith, l))
+        go : (a : Result SurfaceDiagnostics ℕ) → (diagnose_of run (policy_of p) ks taus (grid_config butterfly calendar) room).answer ≡ a → i < (diagnosed_answer a).value.evaluation_failures → policy_of p ≡ Reject
+        go (Ok d) done l = failure_36 run (policy_of p) ks taus (grid_config butterfly calendar) room d done i l e
+        go (Err n) done l = absurd (omega (arith, l))
 
     pub port_never_36 : (diagnosed_for run p ks taus butterfly calendar room).number ≡ 36 → ⊥
     unfolding diagnosed_for
     port_never_36 e = never_36 run (policy_of p) ks taus (grid_config butterfly calendar) room (back (diagnose_of run (policy_of p) ks taus (grid_config butterfly calendar) room).answer e)
       where
-        back : (a : Diagnosed) → (diagnosed_answer a).number ≡ 36 → a ≡ diagnosed.Refused 36
-        back (diagnosed.Done d) e = absurd (omega (arith, e))
-        back (diagnosed.Refused n) e = ap diagnosed.Refused e
+        back : (a : Result SurfaceDiagnostics ℕ) → (diagnosed_answer a).number ≡ 36 → a ≡ Err 36
+        back (Ok d) e = absurd (omega (arith, e))
+        back (Err n) e = ap Err e

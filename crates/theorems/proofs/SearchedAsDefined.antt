@@ -8,6 +8,7 @@ use lib.Dec.{eqb}
 use lib.ListN.{length}
 use lib.Ieee.{Float}
 use borrow.Author.Tests.{eq-eqb, le-leb}
+use Rattle.moves.specs.Moves.{is_refused}
 use Rattle.laws.proofs.Choices.{cond_ind, cond_test, false_true}
 use Rattle.slice.specs.declared.SviSlice.{SviSlice}
 use Rattle.slice.specs.Slice.{number_of}
@@ -21,10 +22,10 @@ use Rattle.weights.specs.Weights.{scaled_of, capped_of}
 use Rattle.weights.proofs.Places.{scaled_length}
 use Rattle.records.specs.declared.FitConfig.{FitConfig}
 use Rattle.records.specs.declared.FitAnswer.{FitAnswer}
+use Rattle.records.specs.Answer.{refused_with, refused_after}
 use Rattle.judge.specs.declared.Sums.{Sums}
 use Rattle.entry.specs.Sized.{Sized}
 use Rattle.entry.specs.Entry.{range_of, entry_number}
-use Rattle.records.specs.Answer.{refused_with, refused_after}
 use Rattle.calibrate.specs.End.{accepted_of, end_of}
 use Rattle.judge.specs.Judge.{sums_of, params_hold, rmse_of, rmse_holds}
 use Rattle.calibrate.specs.Fit.{scaled_for, a_max_for, limits_for, plan_for, search_for, active_from, slice_from, fit_search, best_end, search_end, decided_of, capped_as, fit_of}
@@ -59,11 +60,11 @@ module _ (tau : Float) (c : FitConfig) (ks ws weights : List Float) where
   -- the answers of a fit that passes the entry checks: what holds of each of them holds of its answer
   module _
       (P : FitAnswer → Type 0)
-      (six : s.refused ≡ true → P (refused_after 6 s.counts))
-      (seven : s.refused ≡ false → P (refused_after 7 s.counts))
-      (eight : s.refused ≡ false → P (refused_after 8 s.counts))
-      (nine : s.refused ≡ false → P (refused_with 9 0 0 rmse c.max_rmse_vol s.counts))
-      (none : s.refused ≡ false → s.found.on_edge ≡ false → P done) where
+      (six : is_refused s ≡ true → P (refused_after 6 s.counts))
+      (seven : is_refused s ≡ false → P (refused_after 7 s.counts))
+      (eight : is_refused s ≡ false → P (refused_after 8 s.counts))
+      (nine : is_refused s ≡ false → P (refused_with 9 0 0 rmse c.max_rmse_vol s.counts))
+      (none : is_refused s ≡ false → s.found.on_edge ≡ false → P done) where
     -- of a, with its capped positions where it is accepted
     abbrev Of : FitAnswer → Type 0
     Of a = P (cond (eqb a.number 0) (capped_as a (length (capped_of c.max_weight_ratio weights))) a)
@@ -71,7 +72,7 @@ module _ (tau : Float) (c : FitConfig) (ks ws weights : List Float) where
     of_decided : Of (decided_of tau c ks ws (scaled_for c weights))
     unfolding decided_of search_end best_end end_of refused_with accepted_of
     of_decided =
-        cond_test Of s.refused six
+        cond_test Of (is_refused s) six
         (λ r.
         cond_test Of s.found.on_edge (λ e. seven r)
         (λ e.
@@ -89,8 +90,8 @@ module _ (tau : Float) (c : FitConfig) (ks ws weights : List Float) (room slots 
   -- the number, the counts and what an accepted answer is made from, of every answer
   record Ends (a : FitAnswer) : Type 0 where
     counts : a.counts ≡ (search_for c ks ws weights).counts
-    refuses : (search_for c ks ws weights).refused ≡ true → a.number ≡ 6
-    refused : a.number ≡ 6 → (search_for c ks ws weights).refused ≡ true
+    refuses : is_refused (search_for c ks ws weights) ≡ true → a.number ≡ 6
+    refused : a.number ≡ 6 → is_refused (search_for c ks ws weights) ≡ true
     accepted : a.number ≡ 0 → FromFound tau c ks ws (search_for c ks ws weights) a
 
   ends : entry_number tau c ks ws weights room slots ≡ 0 → Ends (fit_of tau c ks ws weights room slots)

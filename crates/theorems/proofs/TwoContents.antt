@@ -9,24 +9,23 @@ use lib.Dec.{eqb, leb}
 use lib.ListN.{length}
 use lib.Ieee.{Float}
 use borrow.Author.Tests.{eqb-true, eq-eqb, le-leb, leb-true, not-true, not-false}
+use Rattle.std.specs.Prelude.{Option, None, Some as Just}
 use Rattle.laws.specs.Choice.{unless}
 use Rattle.laws.specs.Some.{Some}
 use Rattle.laws.proofs.Choices.{cond_test, both, split, off, past_one, false_true}
 use Rattle.records.specs.declared.FitConfig.{FitConfig}
 use Rattle.records.specs.Settings.{sizes_hold}
 use Rattle.records.specs.Answer.{refused_with}
-use Rattle.house.specs.declared.House.{House}
-use Rattle.house.specs.declared.House.TheVariants.{Malformed, File}
+use Rattle.house.specs.declared.Layout.{Layout}
 use Rattle.house.specs.declared.Quote.{Quote}
-use Rattle.house.specs.File.{house_of, tau_of, config_of, records_at, records_of}
+use Rattle.house.specs.File.{File, house_of, tau_of, config_of, records_at, records_of}
 use Rattle.house.specs.Check.{k_of, w_of, weight_of, all_pass}
 use Rattle.house.specs.Repeats.{same_content, clash, agrees, all_agree, kept}
 use Rattle.house.specs.Taken.{intake_number}
 use Rattle.house.specs.When.{nth, Clashing, TwoContents, NoneBefore44}
 use Rattle.house.proofs.Files.{quotes_length}
 use Rattle.house.proofs.Once.{content_is}
-use Rattle.outcome.specs.declared.Outcome.{Outcome}
-use Rattle.outcome.specs.Outcome.{refused_at, quotes_outcome, bytes_outcome, outcome_for, file_outcome}
+use Rattle.outcome.specs.Outcome.{OutcomeAnswer, refused_at, quotes_outcome, bytes_outcome, outcome_for, file_outcome}
 use Rattle.outcome.proofs.Coming.{refused_is, for_house}
 use Rattle.outcome.proofs.OnlyMalformed.{fit_below}
 
@@ -121,13 +120,13 @@ module _ (config : FitConfig) (qs : List Quote) (room slots : ℕ) where
     quotes_when : (quotes_outcome tau config qs room slots).fit.number ≡ 44 → When
     unfolding quotes_outcome refused_with
     quotes_when =
-        cond_test (λ (o : Outcome). o.fit.number ≡ 44 → When) (eqb (intake_number config qs room slots) 0)
+        cond_test (λ (o : OutcomeAnswer). o.fit.number ≡ 44 → When) (eqb (intake_number config qs room slots) 0)
         (λ z h. absurd (omega (arith, h, fit_below tau config (map k_of (kept qs)) (map w_of (kept qs)) (map weight_of (kept qs)) room slots)))
         (λ z h. intake_when h)
 
     when_quotes : When → (quotes_outcome tau config qs room slots).fit.number ≡ 44
     unfolding refused_with
-    when_quotes w = ap (λ (o : Outcome). o.fit.number) (when_outcome w)
+    when_quotes w = ap (λ (o : OutcomeAnswer). o.fit.number) (when_outcome w)
 
 -- ---- what the two public functions answer
 
@@ -140,7 +139,7 @@ quotes_44 tau config s room slots = (there, back)
   where
     there : (bytes_outcome tau config s room slots).fit.number ≡ 44 → (length s % 32 ≡ 0) × NoneBefore44 config (records_of s) room slots × TwoContents (records_of s)
     there =
-        cond_test (λ (o : Outcome). o.fit.number ≡ 44 → (length s % 32 ≡ 0) × NoneBefore44 config (records_of s) room slots × TwoContents (records_of s)) (eqb (length s % 32) 0)
+        cond_test (λ (o : OutcomeAnswer). o.fit.number ≡ 44 → (length s % 32 ≡ 0) × NoneBefore44 config (records_of s) room slots × TwoContents (records_of s)) (eqb (length s % 32) 0)
         (λ z h. let w = quotes_when config (records_of s) room slots tau h in (eqb-true (length s % 32) 0 z, w.0, w.1))
         (λ z h. absurd (omega arith))
 
@@ -158,15 +157,17 @@ file_44 s room slots = (there, back)
     Told : Type 0
     Told = (v : ℕ) × (n : ℕ) × (File v n ≡ house_of s) × NoneBefore44 (config_of s v) (records_at s v n) room slots × TwoContents (records_at s v n)
 
-    by : (h : House) → h ≡ house_of s → (outcome_for s h room slots).fit.number ≡ 44 → Told
-    by Malformed e h = absurd (omega arith)
-    by (File v n) e h = let w = quotes_when (config_of s v) (records_at s v n) room slots (tau_of s v) h in (v, n, e, w.0, w.1)
+    by : (h : Option Layout) → h ≡ house_of s → (outcome_for s h room slots).fit.number ≡ 44 → Told
+    by None e h = absurd (omega arith)
+    by (Just f) e h =
+        let w = quotes_when (config_of s f.settings) (records_at s f.settings f.count) room slots (tau_of s f.settings) h in
+        (f.settings, f.count, e, w.0, w.1)
 
     there : (file_outcome s room slots).fit.number ≡ 44 → Told
-    there h = by (house_of s) refl (ap (λ (o : Outcome). o.fit.number) (for_house s room slots (house_of s) refl) ∙ h)
+    there h = by (house_of s) refl (ap (λ (o : OutcomeAnswer). o.fit.number) (for_house s room slots (house_of s) refl) ∙ h)
 
     back : Told → (file_outcome s room slots).fit.number ≡ 44
-    back w = sym (ap (λ (o : Outcome). o.fit.number) (for_house s room slots (File w.0 w.1) w.2)) ∙ when_quotes (config_of s w.0) (records_at s w.0 w.1) room slots (tau_of s w.0) (w.3, w.4)
+    back w = sym (ap (λ (o : OutcomeAnswer). o.fit.number) (for_house s room slots (File w.0 w.1) w.2)) ∙ when_quotes (config_of s w.0) (records_at s w.0 w.1) room slots (tau_of s w.0) (w.3, w.4)
 
 -- ---- what 44 carries
 
@@ -185,5 +186,5 @@ pub file_44_carries :
     → (file_outcome s room slots).fit.number ≡ 44 → file_outcome s room slots ≡ refused_at 44 n
 file_44_carries s v n e room slots h =
     let is = for_house s room slots (File v n) e in
-    let w = quotes_when (config_of s v) (records_at s v n) room slots (tau_of s v) (ap (λ (o : Outcome). o.fit.number) is ∙ h) in
+    let w = quotes_when (config_of s v) (records_at s v n) room slots (tau_of s v) (ap (λ (o : OutcomeAnswer). o.fit.number) is ∙ h) in
     sym is ∙ when_outcome (config_of s v) (records_at s v n) room slots (tau_of s v) w ∙ ap (refused_at 44) (quotes_length s (20 + 88 * v) n)

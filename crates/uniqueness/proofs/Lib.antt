@@ -1,3 +1,4 @@
+pub mod SettledRefusals
 pub mod SettledBits
 pub mod SettledRoots
 pub mod SettledExponent

@@ -1,22 +1,14 @@
 -- No second answer meets the contract of a public function of crate `bits`. Written by tools/settle from the contracts. Assumes nothing.
 use Rattle.bits.specs.Bytes.{u32_at, u64_at}
 use Rattle.laws.proofs.Choices.{settled}
-use Rattle.laws.specs.Floats.{abs_of, finite, max_of, min_of, unsigned_of}
+use Rattle.laws.specs.Floats.{abs_of, finite, max_of, min_of, positive, unsigned_of}
 use Rattle.std.specs.Float.{binary64}
 use Rattle.std.specs.Float.Ieee.{lt, of_bits, to_bits}
 use Rattle.std.specs.Prelude.{Bool, Float, List, cond, ℕ, ◌<◌, ◌≡◌}
 
 -- bits::pick
-pub pick : (c : Bool) (a : Float) (b : Float) {r₁ r₂ : Float} → (r₁ ≡ cond c a b) → (r₂ ≡ cond c a b) → r₁ ≡ r₂
+pub pick : {T : Type 0} (c : Bool) (a : T) (b : T) {r₁ r₂ : T} → (r₁ ≡ cond c a b) → (r₂ ≡ cond c a b) → r₁ ≡ r₂
 pick c a b h₁ h₂ = settled h₁ h₂
-
--- bits::pick_number
-pub pick_number : (c : Bool) (a : ℕ) (b : ℕ) {r₁ r₂ : ℕ} → (r₁ ≡ cond c a b) → (r₂ ≡ cond c a b) → r₁ ≡ r₂
-pick_number c a b h₁ h₂ = settled h₁ h₂
-
--- bits::pick_count
-pub pick_count : (c : Bool) (a : ℕ) (b : ℕ) {r₁ r₂ : ℕ} → (r₁ ≡ cond c a b) → (r₂ ≡ cond c a b) → r₁ ≡ r₂
-pick_count c a b h₁ h₂ = settled h₁ h₂
 
 -- bits::unsigned
 pub unsigned : (x : Float) {r₁ r₂ : Float} → (r₁ ≡ unsigned_of x) → (r₂ ≡ unsigned_of x) → r₁ ≡ r₂
@@ -29,6 +21,10 @@ magnitude x h₁ h₂ = settled h₁ h₂
 -- bits::is_finite
 pub is_finite : (x : Float) {r₁ r₂ : Bool} → (r₁ ≡ finite x) → (r₂ ≡ finite x) → r₁ ≡ r₂
 is_finite x h₁ h₂ = settled h₁ h₂
+
+-- bits::is_positive
+pub is_positive : (x : Float) {r₁ r₂ : Bool} → (r₁ ≡ positive x) → (r₂ ≡ positive x) → r₁ ≡ r₂
+is_positive x h₁ h₂ = settled h₁ h₂
 
 -- bits::min
 pub min : (a : Float) (b : Float) {r₁ r₂ : Float} → (r₁ ≡ min_of a b) → (r₂ ≡ min_of a b) → r₁ ≡ r₂

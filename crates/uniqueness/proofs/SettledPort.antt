@@ -12,7 +12,7 @@ use Rattle.port.specs.FitRows.{FittedRows, QuotesRows}
 use Rattle.records.specs.Settings.{defaults_of}
 use Rattle.roots.specs.Hypot.{hypot_of}
 use Rattle.roots.specs.Root.{root_of}
-use Rattle.rows.specs.Answers.{bracket_for, check_at, covers_for, diagnosed_counts, diagnosed_for, diagnosed_worst, places_row, policy_number, region_for, report_at, room_for, total_answer, total_for, total_row}
+use Rattle.rows.specs.Answers.{bracket_for, check_at, covers_for, diagnosed_counts, diagnosed_for, diagnosed_worst, is_calibrated, places_row, policy_number, region_for, report_at, room_for, total_answer, total_for, total_row, weight_in}
 use Rattle.rows.specs.Flag.{flag}
 use Rattle.rows.specs.Rows.{cell_counts, cell_values, range_row, read_limits, read_range, read_slice, reals_row, sizes_row, slice_row, values_row}
 use Rattle.rows.specs.Slices.{level_answer, range_answer, slice_answer, values_answer}
@@ -62,7 +62,7 @@ pub port_run : (file : List ℕ) (out : List ℕ) {r₁ r₂ : ℕ} {out-exit₁
 port_run file out {r₁} {r₂} {out-exit₁} {out-exit₂} h₁ h₂ = (cc, cc)
 
 -- port::port_raw_k_range
-pub port_raw_k_range : (lo : Float) (hi : Float) (range : List Float) {r₁ r₂ : ℕ} {range-exit₁ range-exit₂ : List Float} → ((r₁ ≡ (range_answer (ranged_of lo hi)).number) × (range-exit₁ ≡ range_row (range_answer (ranged_of lo hi)).range)) → ((r₂ ≡ (range_answer (ranged_of lo hi)).number) × (range-exit₂ ≡ range_row (range_answer (ranged_of lo hi)).range)) → (r₁ ≡ r₂) × (range-exit₁ ≡ range-exit₂)
+pub port_raw_k_range : (lo : Float) (hi : Float) (range : List Float) {r₁ r₂ : ℕ} {range-exit₁ range-exit₂ : List Float} → ((r₁ ≡ (range_answer (ranged_of lo hi)).number) × (range-exit₁ ≡ range_row (range_answer (ranged_of lo hi)).value)) → ((r₂ ≡ (range_answer (ranged_of lo hi)).number) × (range-exit₂ ≡ range_row (range_answer (ranged_of lo hi)).value)) → (r₁ ≡ r₂) × (range-exit₁ ≡ range-exit₂)
 port_raw_k_range lo hi range {r₁} {r₂} {range-exit₁} {range-exit₂} h₁ h₂ = (cc, cc)
 
 -- port::port_raw_contains
@@ -70,7 +70,7 @@ pub port_raw_contains : (range : List Float) (k : Float) {r₁ r₂ : ℕ} → (
 port_raw_contains range k h₁ h₂ = settled h₁ h₂
 
 -- port::port_raw_slice
-pub port_raw_slice : (tau : Float) (a : Float) (b : Float) (rho : Float) (m : Float) (sigma : Float) (range : List Float) (slice : List Float) {r₁ r₂ : ℕ} {slice-exit₁ slice-exit₂ : List Float} → ((r₁ ≡ (slice_answer (made_of tau a b rho m sigma (read_range range))).number) × (slice-exit₁ ≡ slice_row (slice_answer (made_of tau a b rho m sigma (read_range range))).slice)) → ((r₂ ≡ (slice_answer (made_of tau a b rho m sigma (read_range range))).number) × (slice-exit₂ ≡ slice_row (slice_answer (made_of tau a b rho m sigma (read_range range))).slice)) → (r₁ ≡ r₂) × (slice-exit₁ ≡ slice-exit₂)
+pub port_raw_slice : (tau : Float) (a : Float) (b : Float) (rho : Float) (m : Float) (sigma : Float) (range : List Float) (slice : List Float) {r₁ r₂ : ℕ} {slice-exit₁ slice-exit₂ : List Float} → ((r₁ ≡ (slice_answer (made_of tau a b rho m sigma (read_range range))).number) × (slice-exit₁ ≡ slice_row (slice_answer (made_of tau a b rho m sigma (read_range range))).value)) → ((r₂ ≡ (slice_answer (made_of tau a b rho m sigma (read_range range))).number) × (slice-exit₂ ≡ slice_row (slice_answer (made_of tau a b rho m sigma (read_range range))).value)) → (r₁ ≡ r₂) × (slice-exit₁ ≡ slice-exit₂)
 port_raw_slice tau a b rho m sigma range slice {r₁} {r₂} {slice-exit₁} {slice-exit₂} h₁ h₂ = (cc, cc)
 
 -- port::port_raw_minimum
@@ -82,7 +82,7 @@ pub port_raw_lee_slope : (slice : List Float) (value : List Float) {r₁ r₂ : 
 port_raw_lee_slope slice value {r₁} {r₂} {value-exit₁} {value-exit₂} h₁ h₂ = (cc, cc)
 
 -- port::port_raw_eval
-pub port_raw_eval : (slice : List Float) (k : Float) (values : List Float) {r₁ r₂ : ℕ} {values-exit₁ values-exit₂ : List Float} → ((r₁ ≡ (values_answer (eval_of (read_slice slice) k)).number) × (values-exit₁ ≡ values_row (values_answer (eval_of (read_slice slice) k)))) → ((r₂ ≡ (values_answer (eval_of (read_slice slice) k)).number) × (values-exit₂ ≡ values_row (values_answer (eval_of (read_slice slice) k)))) → (r₁ ≡ r₂) × (values-exit₁ ≡ values-exit₂)
+pub port_raw_eval : (slice : List Float) (k : Float) (values : List Float) {r₁ r₂ : ℕ} {values-exit₁ values-exit₂ : List Float} → ((r₁ ≡ (values_answer (eval_of (read_slice slice) k)).number) × (values-exit₁ ≡ values_row (values_answer (eval_of (read_slice slice) k)).value)) → ((r₂ ≡ (values_answer (eval_of (read_slice slice) k)).number) × (values-exit₂ ≡ values_row (values_answer (eval_of (read_slice slice) k)).value)) → (r₁ ≡ r₂) × (values-exit₁ ≡ values-exit₂)
 port_raw_eval slice k values {r₁} {r₂} {values-exit₁} {values-exit₂} h₁ h₂ = (cc, cc)
 
 -- port::port_raw_solve
@@ -98,7 +98,7 @@ pub port_check_point : (k : Float) (tau : Float) {r₁ r₂ : ℕ} → (r₁ ≡
 port_check_point k tau h₁ h₂ = settled h₁ h₂
 
 -- port::port_raw_total
-pub port_raw_total : (w : Float) (w_k : Float) (w_kk : Float) (w_tau : Float) (total : List Float) {r₁ r₂ : ℕ} {total-exit₁ total-exit₂ : List Float} → ((r₁ ≡ (total_answer (total_of w w_k w_kk w_tau)).number) × (total-exit₁ ≡ total_row (total_answer (total_of w w_k w_kk w_tau)))) → ((r₂ ≡ (total_answer (total_of w w_k w_kk w_tau)).number) × (total-exit₂ ≡ total_row (total_answer (total_of w w_k w_kk w_tau)))) → (r₁ ≡ r₂) × (total-exit₁ ≡ total-exit₂)
+pub port_raw_total : (w : Float) (w_k : Float) (w_kk : Float) (w_tau : Float) (total : List Float) {r₁ r₂ : ℕ} {total-exit₁ total-exit₂ : List Float} → ((r₁ ≡ (total_answer (total_of w w_k w_kk w_tau)).number) × (total-exit₁ ≡ total_row (total_answer (total_of w w_k w_kk w_tau)).value)) → ((r₂ ≡ (total_answer (total_of w w_k w_kk w_tau)).number) × (total-exit₂ ≡ total_row (total_answer (total_of w w_k w_kk w_tau)).value)) → (r₁ ≡ r₂) × (total-exit₁ ≡ total-exit₂)
 port_raw_total w w_k w_kk w_tau total {r₁} {r₂} {total-exit₁} {total-exit₂} h₁ h₂ = (cc, cc)
 
 -- port::port_default_policy
@@ -110,23 +110,23 @@ pub port_surface : (slices : List SviSlice) {r₁ r₂ : ℕ} → (r₁ ≡ chec
 port_surface slices h₁ h₂ = settled h₁ h₂
 
 -- port::port_raw_bracket
-pub port_raw_bracket : (slices : List SviSlice) (policy : ℕ) (k : Float) (tau : Float) (places : List ℕ) (x : List Float) {r₁ r₂ : ℕ} {places-exit₁ places-exit₂ : List ℕ} {x-exit₁ x-exit₂ : List Float} → ((r₁ ≡ (bracket_for (run_of slices) policy k tau).number) × (places-exit₁ ≡ places_row (bracket_for (run_of slices) policy k tau)) × (x-exit₁ ≡ (bracket_for (run_of slices) policy k tau).x ∷ [])) → ((r₂ ≡ (bracket_for (run_of slices) policy k tau).number) × (places-exit₂ ≡ places_row (bracket_for (run_of slices) policy k tau)) × (x-exit₂ ≡ (bracket_for (run_of slices) policy k tau).x ∷ [])) → (r₁ ≡ r₂) × (places-exit₁ ≡ places-exit₂) × (x-exit₁ ≡ x-exit₂)
+pub port_raw_bracket : (slices : List SviSlice) (policy : ℕ) (k : Float) (tau : Float) (places : List ℕ) (x : List Float) {r₁ r₂ : ℕ} {places-exit₁ places-exit₂ : List ℕ} {x-exit₁ x-exit₂ : List Float} → ((r₁ ≡ (bracket_for (run_of slices) policy k tau).number) × (places-exit₁ ≡ places_row (bracket_for (run_of slices) policy k tau).value) × (x-exit₁ ≡ weight_in (bracket_for (run_of slices) policy k tau).value ∷ [])) → ((r₂ ≡ (bracket_for (run_of slices) policy k tau).number) × (places-exit₂ ≡ places_row (bracket_for (run_of slices) policy k tau).value) × (x-exit₂ ≡ weight_in (bracket_for (run_of slices) policy k tau).value ∷ [])) → (r₁ ≡ r₂) × (places-exit₁ ≡ places-exit₂) × (x-exit₁ ≡ x-exit₂)
 port_raw_bracket slices policy k tau places x {r₁} {r₂} {places-exit₁} {places-exit₂} {x-exit₁} {x-exit₂} h₁ h₂ = (cc, cc, cc)
 
 -- port::port_raw_region
-pub port_raw_region : (slices : List SviSlice) (policy : ℕ) (k : Float) (tau : Float) (calibrated : List ℕ) {r₁ r₂ : ℕ} {calibrated-exit₁ calibrated-exit₂ : List ℕ} → ((r₁ ≡ (region_for (run_of slices) policy k tau).number) × (calibrated-exit₁ ≡ flag (region_for (run_of slices) policy k tau).calibrated ∷ [])) → ((r₂ ≡ (region_for (run_of slices) policy k tau).number) × (calibrated-exit₂ ≡ flag (region_for (run_of slices) policy k tau).calibrated ∷ [])) → (r₁ ≡ r₂) × (calibrated-exit₁ ≡ calibrated-exit₂)
+pub port_raw_region : (slices : List SviSlice) (policy : ℕ) (k : Float) (tau : Float) (calibrated : List ℕ) {r₁ r₂ : ℕ} {calibrated-exit₁ calibrated-exit₂ : List ℕ} → ((r₁ ≡ (region_for (run_of slices) policy k tau).number) × (calibrated-exit₁ ≡ flag (is_calibrated (region_for (run_of slices) policy k tau).value) ∷ [])) → ((r₂ ≡ (region_for (run_of slices) policy k tau).number) × (calibrated-exit₂ ≡ flag (is_calibrated (region_for (run_of slices) policy k tau).value) ∷ [])) → (r₁ ≡ r₂) × (calibrated-exit₁ ≡ calibrated-exit₂)
 port_raw_region slices policy k tau calibrated {r₁} {r₂} {calibrated-exit₁} {calibrated-exit₂} h₁ h₂ = (cc, cc)
 
 -- port::port_raw_total_variance
-pub port_raw_total_variance : (slices : List SviSlice) (policy : ℕ) (k : Float) (tau : Float) (total : List Float) {r₁ r₂ : ℕ} {total-exit₁ total-exit₂ : List Float} → ((r₁ ≡ (total_for (run_of slices) policy k tau).number) × (total-exit₁ ≡ total_row (total_for (run_of slices) policy k tau))) → ((r₂ ≡ (total_for (run_of slices) policy k tau).number) × (total-exit₂ ≡ total_row (total_for (run_of slices) policy k tau))) → (r₁ ≡ r₂) × (total-exit₁ ≡ total-exit₂)
+pub port_raw_total_variance : (slices : List SviSlice) (policy : ℕ) (k : Float) (tau : Float) (total : List Float) {r₁ r₂ : ℕ} {total-exit₁ total-exit₂ : List Float} → ((r₁ ≡ (total_for (run_of slices) policy k tau).number) × (total-exit₁ ≡ total_row (total_for (run_of slices) policy k tau).value)) → ((r₂ ≡ (total_for (run_of slices) policy k tau).number) × (total-exit₂ ≡ total_row (total_for (run_of slices) policy k tau).value)) → (r₁ ≡ r₂) × (total-exit₁ ≡ total-exit₂)
 port_raw_total_variance slices policy k tau total {r₁} {r₂} {total-exit₁} {total-exit₂} h₁ h₂ = (cc, cc)
 
 -- port::port_raw_covers_nodes
-pub port_raw_covers_nodes : (slices : List SviSlice) (ks : List Float) (taus : List Float) (all : List ℕ) {r₁ r₂ : ℕ} {all-exit₁ all-exit₂ : List ℕ} → ((r₁ ≡ (covers_for (run_of slices) ks taus).number) × (all-exit₁ ≡ flag (covers_for (run_of slices) ks taus).all ∷ [])) → ((r₂ ≡ (covers_for (run_of slices) ks taus).number) × (all-exit₂ ≡ flag (covers_for (run_of slices) ks taus).all ∷ [])) → (r₁ ≡ r₂) × (all-exit₁ ≡ all-exit₂)
+pub port_raw_covers_nodes : (slices : List SviSlice) (ks : List Float) (taus : List Float) (all : List ℕ) {r₁ r₂ : ℕ} {all-exit₁ all-exit₂ : List ℕ} → ((r₁ ≡ (covers_for (run_of slices) ks taus).number) × (all-exit₁ ≡ flag (covers_for (run_of slices) ks taus).value ∷ [])) → ((r₂ ≡ (covers_for (run_of slices) ks taus).number) × (all-exit₂ ≡ flag (covers_for (run_of slices) ks taus).value ∷ [])) → (r₁ ≡ r₂) × (all-exit₁ ≡ all-exit₂)
 port_raw_covers_nodes slices ks taus all {r₁} {r₂} {all-exit₁} {all-exit₂} h₁ h₂ = (cc, cc)
 
 -- port::port_raw_diagnose
-pub port_raw_diagnose : (slices : List SviSlice) (policy : ℕ) (ks : List Float) (taus : List Float) (butterfly_tolerance : Float) (calendar_tolerance : Float) (room : List Float) (counts : List ℕ) (worst : List Float) {r₁ r₂ : ℕ} {room-exit₁ room-exit₂ : List Float} {counts-exit₁ counts-exit₂ : List ℕ} {worst-exit₁ worst-exit₂ : List Float} → ((r₁ ≡ (diagnosed_for (run_of slices) policy ks taus butterfly_tolerance calendar_tolerance room).number) × (room-exit₁ ≡ room_for (run_of slices) policy ks taus butterfly_tolerance calendar_tolerance room) × (counts-exit₁ ≡ diagnosed_counts (diagnosed_for (run_of slices) policy ks taus butterfly_tolerance calendar_tolerance room)) × (worst-exit₁ ≡ diagnosed_worst (diagnosed_for (run_of slices) policy ks taus butterfly_tolerance calendar_tolerance room))) → ((r₂ ≡ (diagnosed_for (run_of slices) policy ks taus butterfly_tolerance calendar_tolerance room).number) × (room-exit₂ ≡ room_for (run_of slices) policy ks taus butterfly_tolerance calendar_tolerance room) × (counts-exit₂ ≡ diagnosed_counts (diagnosed_for (run_of slices) policy ks taus butterfly_tolerance calendar_tolerance room)) × (worst-exit₂ ≡ diagnosed_worst (diagnosed_for (run_of slices) policy ks taus butterfly_tolerance calendar_tolerance room))) → (r₁ ≡ r₂) × (room-exit₁ ≡ room-exit₂) × (counts-exit₁ ≡ counts-exit₂) × (worst-exit₁ ≡ worst-exit₂)
+pub port_raw_diagnose : (slices : List SviSlice) (policy : ℕ) (ks : List Float) (taus : List Float) (butterfly_tolerance : Float) (calendar_tolerance : Float) (room : List Float) (counts : List ℕ) (worst : List Float) {r₁ r₂ : ℕ} {room-exit₁ room-exit₂ : List Float} {counts-exit₁ counts-exit₂ : List ℕ} {worst-exit₁ worst-exit₂ : List Float} → ((r₁ ≡ (diagnosed_for (run_of slices) policy ks taus butterfly_tolerance calendar_tolerance room).number) × (room-exit₁ ≡ room_for (run_of slices) policy ks taus butterfly_tolerance calendar_tolerance room) × (counts-exit₁ ≡ diagnosed_counts (diagnosed_for (run_of slices) policy ks taus butterfly_tolerance calendar_tolerance room).value) × (worst-exit₁ ≡ diagnosed_worst (diagnosed_for (run_of slices) policy ks taus butterfly_tolerance calendar_tolerance room).value)) → ((r₂ ≡ (diagnosed_for (run_of slices) policy ks taus butterfly_tolerance calendar_tolerance room).number) × (room-exit₂ ≡ room_for (run_of slices) policy ks taus butterfly_tolerance calendar_tolerance room) × (counts-exit₂ ≡ diagnosed_counts (diagnosed_for (run_of slices) policy ks taus butterfly_tolerance calendar_tolerance room).value) × (worst-exit₂ ≡ diagnosed_worst (diagnosed_for (run_of slices) policy ks taus butterfly_tolerance calendar_tolerance room).value)) → (r₁ ≡ r₂) × (room-exit₁ ≡ room-exit₂) × (counts-exit₁ ≡ counts-exit₂) × (worst-exit₁ ≡ worst-exit₂)
 port_raw_diagnose slices policy ks taus butterfly_tolerance calendar_tolerance room counts worst {r₁} {r₂} {room-exit₁} {room-exit₂} {counts-exit₁} {counts-exit₂} {worst-exit₁} {worst-exit₂} h₁ h₂ = (cc, cc, cc, cc)
 
 -- port::port_raw_check_record

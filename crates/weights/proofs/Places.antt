@@ -1,22 +1,25 @@
 -- One turn of each loop over the weights, said of lists. Assumes nothing.
-use mathlib.Core.Path.{◌≡◌, refl, sym, ap, ◌∙◌}
-use mathlib.Core.Bool.{Bool, ◌&&◌, true}
+use mathlib.Core.Path.{◌≡◌, refl, sym, ap, ap₂, subst, ◌∙◌}
+use mathlib.Core.Bool.{Bool, true}
 use mathlib.Core.List.{List, [], ◌∷◌, ◌++◌, map, append_assoc, map-append}
-use Prim.Native.Nat.{ℕ, suc, ◌+◌, ◌-◌, ◌/◌, ◌≤◌, ◌<◌}
+use Prim.Native.Nat.{ℕ, suc, ◌+◌, ◌-◌, ◌≤◌, ◌<◌}
 use native.Mathlib.Omega.{arith}
-use native.Mathlib.Nat.{sub-zero, add-zero}
+use native.Mathlib.Nat.{sub-zero, add-zero, zero-add}
 use native.Mathlib.Numerals.{add-one}
-use lib.ListN.{length, take, drop, set, length-set, length-map, length-drop, get_or-append}
-use lib.Seq.{take-suc-set, take-suc, drop-cons, get_or-drop, slice, slice-cons, slice_empty, drop-length, take-length, take_at, drop_at, drop-drop, drop-set-lt, set_split, length-take-le}
+use lib.ListN.{length, take, drop, set, length-set, length-map, length-drop, get_or}
+use lib.Seq.{take-suc-set, take-suc, drop-cons, get_or-drop, drop-length, take-length, take_at, drop_at, drop-drop, drop-set-lt, length-take-le}
 use lib.Ieee.{Float, nan}
-use Rattle.laws.specs.Floats.{◌*f◌, at, positive}
+use Rattle.std.specs.Prelude.{reverse}
+use Rattle.std.specs.List.{enumerate_from}
+use Rattle.std.proofs.lemmas.List.{length-reverse, get_or-reverse, get_or_default}
+use Rattle.std.proofs.lemmas.List.FromFn.{length-enumerate_from, get_or-enumerate_from}
+use Rattle.laws.specs.Floats.{◌*f◌, at}
 use Rattle.laws.specs.Room.{at_front}
 use borrow.Author.Tests.{le-leb}
 use Rattle.laws.proofs.Choices.{if_true}
-use Rattle.laws.proofs.Loops.{for_same}
 use Rattle.laws.proofs.Rooms.{put_next}
 use Rattle.weights.specs.declared.Weights.{Weights}
-use Rattle.weights.specs.Weights.{insert_of, sort_of, lesser, greater, mid_of, median_of, cap_of, top_of, scale_one, scaled_of, good_first, all_good, weighable, weighed, weights_of, scaled_in}
+use Rattle.weights.specs.Weights.{insert_of, sort_of, lesser, greater, mid_of, median_of, cap_of, top_of, scale_one, scaled_of, all_good, weighable, weighed, weights_of, scaled_in}
 
 -- lists that agree from k on agree from k + 1 on
 drop_more : (k : ℕ) (a b : List Float) → drop k a ≡ drop k b → drop (k + 1) a ≡ drop (k + 1) b
@@ -29,38 +32,40 @@ at_drop k a = get_or-drop k a 0 nan ∙ ap (at a) (add-zero k)
 at_same : (k : ℕ) (a b : List Float) → drop k a ≡ drop k b → at a k ≡ at b k
 at_same k a b e = sym (at_drop k a) ∙ ap (λ (l : List Float). at l 0) e ∙ at_drop k b
 
--- ---- x goes through a: the first k have been passed, and `carry` goes on
+-- ---- x goes through a list: the first k have been passed, and `carry` goes on
 
-pub record Passing (n k : ℕ) (x carry : Float) (a out : List Float) : Type 0 where
-  pub within : k ≤ n
+pub record Passing (k : ℕ) (x carry : Float) (a out : List Float) : Type 0 where
   pub long : length out ≡ length a
-  pub front : take k out ++ insert_of carry (slice k n a) ≡ insert_of x (take n a)
+  pub front : take k out ++ insert_of carry (drop k a) ≡ insert_of x a
   pub back : drop k out ≡ drop k a
 
-pub passing_start : (n : ℕ) (x : Float) (a : List Float) → Passing n 0 x x a a
-passing_start n x a = record { within = omega arith; long = refl; front = refl; back = refl }
+pub passing_start : (x : Float) (a : List Float) → Passing 0 x x a a
+passing_start x a = record { long = refl; front = refl; back = refl }
 
 pub passing_next :
-    (n k : ℕ) (x carry : Float) (a out : List Float) → k < n → n < length a → Passing n k x carry a out
-    → Passing n (k + 1) x (greater carry (at out k)) a (set out k (lesser carry (at out k)))
+    (k : ℕ) (x carry : Float) (a out : List Float) → k < length a → Passing k x carry a out
+    → Passing (k + 1) x (greater carry (at out k)) a (set out k (lesser carry (at out k)))
 unfolding insert_of
-passing_next n k x carry a out l m h =
+passing_next k x carry a out l h =
     rw (at_same k out a h.back)
     (record {
-      within = rw add-one l;
       long = length-set out k _ ∙ h.long;
-      front = rw (add-one k, take-suc-set out k (lesser carry (at a k)) (rw h.long (omega arith)), append_assoc) (rw (slice-cons k n a nan l (omega arith)) at h.front);
+      front = rw (add-one k, take-suc-set out k (lesser carry (at a k)) (rw h.long l), append_assoc) (rw (drop-cons a k nan l) at h.front);
       back = drop-set-lt (k + 1) out k _ (omega arith) ∙ drop_more k out a h.back;
     })
 
-pub passing_end : (n : ℕ) (x carry : Float) (a out : List Float) → n < length a → Passing n n x carry a out → set out n carry ≡ insert_of x (take n a) ++ drop (n + 1) a
+-- all have been passed, and what goes on is the greatest
+pub passing_end : (x carry : Float) (a out : List Float) → Passing (length a) x carry a out → out ++ (carry ∷ []) ≡ insert_of x a
 unfolding insert_of
-passing_end n x carry a out l h =
-    let e : take n out ++ (carry ∷ []) ≡ insert_of x (take n a) = rw (slice_empty n a) at h.front in
-    set_split out n carry (rw h.long l)
-    ∙ sym (append_assoc (take n out) (carry ∷ []) (drop (suc n) out))
-    ∙ ap (λ (s : List Float). s ++ drop (suc n) out) e
-    ∙ ap (λ (s : List Float). insert_of x (take n a) ++ s) (ap (λ (k : ℕ). drop k out) (sym (add-one n)) ∙ drop_more n out a h.back)
+passing_end x carry a out h =
+    sym (ap₂ (λ (p q : List Float). p ++ insert_of carry q) (ap (λ (n : ℕ). take n out) (sym h.long) ∙ take-length out) (drop-length a)) ∙ h.front
+
+-- so it is put in the first n + 1 places of the room a, behind the n that it passed
+pub passing_room : (n : ℕ) (x carry : Float) (a out : List Float) → n < length a → Passing n x carry (take n a) out → set (out ++ drop n a) n carry ≡ insert_of x (take n a) ++ drop (n + 1) a
+passing_room n x carry a out l h =
+    let e : length (take n a) ≡ n = length-take-le n a (omega arith) in
+    put_next nan out a n (n + 1) carry (h.long ∙ e) l (add-one n)
+    ∙ ap (λ (s : List Float). s ++ drop (n + 1) a) (passing_end x carry (take n a) out (subst (λ (k : ℕ). Passing k x carry (take n a) out) (sym e) h))
 
 -- ---- the sort: m weights, from the last on, are in place
 
@@ -96,11 +101,22 @@ sort_next weights room a next m h inv same e =
     let one : insert_of (at weights i) s ≡ sort_of (drop (length weights - (m + 1)) weights) = rw (x, y, drop-cons weights i nan (omega arith)) in
     (omega arith, same ∙ inv.1, e ∙ ap (λ (l : List Float). insert_of (at weights i) l ++ drop (m + 1) a) front ∙ ap (λ (l : List Float). insert_of (at weights i) s ++ l) back ∙ ap (λ (l : List Float). l ++ drop (m + 1) room) one)
 
-pub sort_end : (weights room a : List Float) (m : ℕ) → length weights ≤ m → Sorting weights room m a → a ≡ at_front (sort_of weights) room
-sort_end weights room a m h inv =
-    let e : m ≡ length weights = omega (arith, inv.0, h) in
+pub sort_end : (weights room a : List Float) (m : ℕ) → m ≡ length weights → Sorting weights room m a → a ≡ at_front (sort_of weights) room
+sort_end weights room a m e inv =
     let z : length weights - m ≡ 0 = omega arith in
     inv.2 ∙ ap (λ (k : ℕ). sort_of (drop k weights) ++ drop m room) z ∙ ap (λ (k : ℕ). sort_of weights ++ drop k room) (e ∙ sym (sort_length weights))
+
+-- the loop over the weights from the last on: how many turns it has, and what it has in its turn
+pub all_turned : (weights : List Float) → length (enumerate_from 0 (reverse weights)) ≡ length weights
+all_turned weights = length-enumerate_from 0 (reverse weights) ∙ length-reverse weights
+
+pub turned : (weights : List Float) (k m : ℕ) (w : Float) → (k < length (enumerate_from 0 (reverse weights))) × ((m, w) ≡ get_or (enumerate_from 0 (reverse weights)) k (m, w)) → (k < length weights) × (m ≡ k) × (w ≡ at weights (length weights - 1 - k))
+turned weights k m w t =
+    let h : k < length weights = rw (all_turned weights) at t.0 in
+    let g : k < length (reverse weights) = rw (length-reverse weights) h in
+    let b : length weights - 1 - k < length weights = omega arith in
+    let e : (m, w) ≡ (0 + k, get_or (reverse weights) k w) = t.1 ∙ get_or-enumerate_from 0 (reverse weights) k (m, w) g in
+    (h, ap (λ (p : ℕ × Float). p.0) e ∙ zero-add k, ap (λ (p : ℕ × Float). p.1) e ∙ get_or-reverse weights k w h ∙ get_or_default weights (length weights - 1 - k) w nan b)
 
 -- ---- the weights scaled by f, one after the other
 
@@ -123,18 +139,8 @@ scale_end f weights room a i h inv =
 
 -- ---- what stands behind a list does not count
 
-mid_front : (n : ℕ) (l room : List Float) → length l ≡ n → 1 ≤ n → mid_of n (at_front l room) ≡ mid_of n l
-unfolding mid_of
-mid_front n l room e h =
-    let r = drop (length l) room in
-    rw (get_or-append l r nan (n / 2 - 1) (omega arith), get_or-append l r nan (n / 2) (omega arith))
-
-good_front : (n : ℕ) (l room : List Float) → length l ≡ n → good_first n (at_front l room) ≡ all_good l
-unfolding all_good
-good_front n l room e =
-    for_same (λ (i : ℕ) (b : Bool). b && positive (at (at_front l room) i)) (λ (i : ℕ) (b : Bool). b && positive (at l i)) n
-    (λ i h b. ap (λ (x : Float). b && positive x) (get_or-append l (drop (length l) room) nan i (omega arith))) true
-    ∙ ap (λ (k : ℕ). good_first k l) (sym e)
+front_is : (n : ℕ) (l room a : List Float) → length l ≡ n → a ≡ at_front l room → take n a ≡ l
+front_is n l room a e h = ap (take n) h ∙ take_at l (drop (length l) room) n e
 
 -- a list written over one of its length
 over_front : (l s room : List Float) → length l ≡ length s → at_front l (at_front s room) ≡ at_front l room
@@ -145,20 +151,21 @@ pub weighed_is :
     (ratio : Float) (weights room sorted scaled : List Float) (mid most : Float) (ok : Bool)
     → 1 ≤ length weights
     → sorted ≡ at_front (sort_of weights) room
-    → mid ≡ mid_of (length weights) sorted
+    → mid ≡ (let l = take (length weights) sorted in mid_of (length l) l)
     → most ≡ top_of (ratio *f mid) weights
     → scaled ≡ at_front (map (scale_one (ratio *f mid) most) weights) sorted
-    → ok ≡ good_first (length weights) scaled
+    → ok ≡ all_good (take (length weights) scaled)
     → (◌≡◌ {A = Weights} (record { ok = ok; cap = ratio *f mid }) (weighed ratio weights)) × (scaled ≡ at_front (scaled_of ratio weights) room)
 weighed_is ratio weights room sorted scaled mid most ok h e1 e2 e3 e4 e5 =
     let n = length weights in
     let f : Float → Float = scale_one (cap_of ratio weights) (top_of (cap_of ratio weights) weights) in
-    let m : mid ≡ median_of weights = e2 ∙ ap (mid_of n) e1 ∙ mid_front n (sort_of weights) room (sort_length weights) h in
+    let m : mid ≡ median_of weights =
+    e2 ∙ ap (λ (l : List Float). mid_of (length l) l) (front_is n (sort_of weights) room sorted (sort_length weights) e1) ∙ ap (λ (k : ℕ). mid_of k (sort_of weights)) (sort_length weights) in
     let t : most ≡ top_of (cap_of ratio weights) weights = e3 ∙ ap (λ (x : Float). top_of (ratio *f x) weights) m in
     let s : scaled ≡ at_front (scaled_of ratio weights) room =
     e4 ∙ ap (λ (x : Float). at_front (map (scale_one (ratio *f x) most) weights) sorted) m ∙ ap (λ (x : Float). at_front (map (scale_one (cap_of ratio weights) x) weights) sorted) t
     ∙ ap (at_front (scaled_of ratio weights)) e1 ∙ over_front (scaled_of ratio weights) (sort_of weights) room (length-map weights f ∙ sym (sort_length weights)) in
-    let o : ok ≡ all_good (scaled_of ratio weights) = e5 ∙ ap (good_first n) s ∙ good_front n (scaled_of ratio weights) room (length-map weights f) in
+    let o : ok ≡ all_good (scaled_of ratio weights) = e5 ∙ ap all_good (front_is n (scaled_of ratio weights) room scaled (length-map weights f) s) in
     (λ i. record { ok = o i; cap = ratio *f m i }, s)
 
 -- ---- what a caller with 1 to 256 weights holds

@@ -3,9 +3,10 @@
 
 ghost use Rattle.std.specs.Prelude.{◌≡◌, map, ◌++◌, ◌+◌, ◌≤◌, ◌<◌, length, take, drop};
 ghost use Rattle.laws.specs.Room.{at_front};
-ghost use Rattle.weights.specs.Weights.{insert_of, sort_of, mid_of, top_of, scale_one, scaled_of, good_first, weighed, weights_of, scaled_in};
+ghost use Rattle.weights.specs.Weights.{insert_of, sort_of, mid_of, top_of, scale_one, scaled_of, all_good, weighed, weights_of, scaled_in};
 
 // What step 3 hands on beside the scaled weights, which stand in lent room: whether each of them is finite and positive, and the cap.
+// Stays: weights_of promises the cap also of weights that are not all good, so it is no Option.
 #[derive(Clone, Copy)]
 pub struct Weights {
     pub ok: bool,
@@ -18,35 +19,34 @@ fn insert(a: &mut [f64], n: usize, x: f64)
     ensures { a.new ≡ insert_of x (take n a.old) ++ drop (n + 1) a.old }
 {
     let mut carry = x;
-    for k in 0..n {
-        let y = a[k];
-        let less = carry < y;
-        a[k] = bits::pick(less, carry, y);
-        carry = bits::pick(less, y, carry);
+    for y in a[..n].iter_mut() {
+        let z = *y;
+        let less = carry < z;
+        *y = bits::pick(less, carry, z);
+        carry = bits::pick(less, z, carry);
     }
     a[n] = carry;
 }
 
 // The weights in ascending order, in the first places of the room.
+// Stays: the order of weights that are no number is promised too, which the library's sort does not say.
 fn sort(room: &mut [f64], weights: &[f64])
     requires { length weights.now ≤ length room.old }
     ensures { room.new ≡ at_front (sort_of weights.now) room.old }
 {
-    let n = weights.len();
-    for m in 0..n {
-        let w = weights[n - 1 - m];
-        insert(room, m, w);
+    for (m, w) in weights.iter().rev().enumerate() {
+        insert(room, m, *w);
     }
 }
 
-// The middle of the first n, which are sorted.
-fn middle(a: &[f64], n: usize) -> f64
-    requires { (1 ≤ n) × (n ≤ length a.now) }
-    ensures { result ≡ mid_of n a.now }
+// The middle of a, which is sorted.
+fn middle(a: &[f64]) -> f64
+    requires { 1 ≤ length a.now }
+    ensures { result ≡ mid_of (length a.now) a.now }
 {
-    let h = n / 2;
+    let h = a.len() / 2;
     let hi = a[h];
-    if n % 2 == 0 {
+    if a.len() % 2 == 0 {
         let lo = a[h - 1];
         return lo + 0.5 * (hi - lo);
     }
@@ -57,11 +57,9 @@ fn middle(a: &[f64], n: usize) -> f64
 fn top(weights: &[f64], cap: f64) -> f64
     ensures { result ≡ top_of cap weights.now }
 {
-    let mut t = 0.0;
-    for i in 0..weights.len() {
-        t = bits::max(t, bits::min(weights[i], cap));
-    }
-    t
+    weights
+        .iter()
+        .fold(0.0, |t, w| bits::max(t, bits::min(*w, cap)))
 }
 
 // Each weight, capped, over the largest, in the first places of the room.
@@ -69,22 +67,18 @@ fn scale(room: &mut [f64], weights: &[f64], cap: f64, most: f64)
     requires { length weights.now ≤ length room.old }
     ensures { room.new ≡ at_front (map (scale_one cap most) weights.now) room.old }
 {
-    for i in 0..weights.len() {
-        room[i] = bits::min(weights[i], cap) / most;
+    // Stays: of iter_mut under zip no promise says what it leaves.
+    for (i, w) in weights.iter().enumerate() {
+        room[i] = bits::min(*w, cap) / most;
     }
 }
 
-// Whether each of the first n is finite and positive.
-fn all_good(a: &[f64], n: usize) -> bool
-    requires { n ≤ length a.now }
-    ensures { result ≡ good_first n a.now }
+// Whether each is finite and positive.
+fn all_good(a: &[f64]) -> bool
+    ensures { result ≡ all_good a.now }
 {
-    let mut good = true;
-    for i in 0..n {
-        let x = a[i];
-        good = good & (bits::is_finite(x) & (0.0 < x));
-    }
-    good
+    // Stays, and no is_positive: the edit zero_weight_passes is of this line.
+    a.iter().all(|x| bits::is_finite(*x) & (0.0 < *x))
 }
 
 // The room is filled with the sorted weights, for the median, and then with the scaled ones.
@@ -95,11 +89,11 @@ fn weigh(weights: &[f64], ratio: f64, room: &mut [f64]) -> Weights
 {
     let n = weights.len();
     sort(room, weights);
-    let cap = ratio * middle(room, n);
+    let cap = ratio * middle(&room[..n]);
     let most = top(weights, cap);
     scale(room, weights, cap, most);
     Weights {
-        ok: all_good(room, n),
+        ok: all_good(&room[..n]),
         cap,
     }
 }

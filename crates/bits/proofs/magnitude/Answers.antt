@@ -3,9 +3,6 @@ use borrow.Author.Rules.{rules}
 use Rattle.laws.proofs.Floats.{abs_at_zero, abs_off_zero}
 use Rattle.bits.proofs.magnitude.Goals as goal
 
-pub unsigned-y-requires : goal.unsigned-y-requires
-unsigned-y-requires c = tt
-
 pub returns-then-y : goal.returns-then-y
 returns-then-y c = abs_at_zero _ _ (search rules) c.unsigned-y.ensures c.if-y.true
 

@@ -1,8 +1,7 @@
 -- `calibrate::limits_of` meets its contract. Assumes nothing.
-use mathlib.Core.Path.{refl}
 use Rattle.calibrate.specs.Fit.{limits_of}
 use Rattle.calibrate.proofs.limits_of.Goals as goal
 
 pub returns : goal.returns
 unfolding limits_of
-returns c = refl
+returns c = cc

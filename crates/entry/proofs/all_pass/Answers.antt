@@ -1,18 +1,16 @@
-use mathlib.Core.Path.{refl, ap}
-use Rattle.laws.proofs.Loops.{again, ended}
-use mathlib.Core.Bool.{Bool, ◌&&◌}
+-- `entry::all_pass` meets its contract. Assumes nothing.
+use Rattle.std.proofs.Common.{rules, sym, ◌∙◌}
+use lib.Ieee.{nan}
+use Rattle.std.proofs.lemmas.Iterator.{YieldsList-from_slice, YieldsList-from_zip}
+use Rattle.std.proofs.lemmas.Iterator.Search.{all_from_yields_List}
+use Rattle.laws.proofs.Folds.{for_all_columns}
+use Rattle.records.specs.Observation.{passes}
 use Rattle.entry.specs.Entry.{columns_pass}
 use Rattle.entry.proofs.all_pass.Goals as goal
 
-pub loop-i-init : goal.loop-i-init
-unfolding columns_pass
-loop-i-init c = refl
-
-pub passes-ok-requires : goal.passes-ok-requires
-passes-ok-requires c = tt
-
-pub loop-i-preserved : goal.loop-i-preserved
-loop-i-preserved c = again _ _ _ c.loop-i-test.true (ap (λ (b : Bool). c.loop-i.ok && b) c.passes-ok.ensures) c.loop-i.invariant
-
 pub returns : goal.returns
-returns c = ended _ _ _ c.loop-i-test.false c.loop-i.invariant
+unfolding columns_pass
+returns c =
+    all_from_yields_List (λ q. passes q.0.0 q.0.1 q.1) c.all.new.self _ _ c.all.ensures.ran
+    (YieldsList-from_zip (YieldsList-from_zip (YieldsList-from_slice c.args.k.now cc) (YieldsList-from_slice c.args.w.now cc)) (YieldsList-from_slice c.args.weight.now cc)) (λ x b q k. search rules)
+    ∙ sym (for_all_columns passes nan nan nan c.args.k.now c.args.w.now c.args.weight.now c.requires.0 c.requires.1)

@@ -1,62 +1,42 @@
 -- `entry::checks` meets its contract. Assumes nothing.
-use mathlib.Core.Path.{refl, sym, ap, ◌∙◌}
-use borrow.Author.Tests.{not-false, le-leb, lt-leb}
-use Rattle.laws.specs.Floats.{positive}
-use Rattle.laws.proofs.Choices.{stops, goes, if_true, if_false}
+use Rattle.std.proofs.Common.{sym, refl, ◌∙◌}
+use borrow.Author.Tests.{le-leb, lt-leb}
+use Rattle.laws.proofs.Choices.{if_true, if_false}
 use Rattle.entry.specs.Entry.{checks_number}
 use Rattle.entry.proofs.Known.{lengths_are}
 use Rattle.entry.proofs.checks.Goals as goal
 
-pub lengths_hold-lengths-requires : goal.lengths_hold-lengths-requires
-lengths_hold-lengths-requires c = tt
-
-pub returns-then-not-lengths : goal.returns-then-not-lengths
+pub returns-then-not-lengths_hold : goal.returns-then-not-lengths_hold
 unfolding checks_number
-returns-then-not-lengths c = stops _ c.lengths_hold-lengths.ensures c.if-not-lengths.true-raw refl
+returns-then-not-lengths_hold c = rw (← c.lengths_hold.ensures, c.if-not-lengths_hold.true) refl
 
-pub sizes_hold-sizes-requires : goal.sizes_hold-sizes-requires
-sizes_hold-sizes-requires c = tt
-
-pub returns-then-not-sizes : goal.returns-then-not-sizes
+pub returns-then-not-sizes_hold : goal.returns-then-not-sizes_hold
 unfolding checks_number
-returns-then-not-sizes c = goes _ c.lengths_hold-lengths.ensures c.if-not-lengths.false-raw (stops _ c.sizes_hold-sizes.ensures c.if-not-sizes.true-raw refl)
+returns-then-not-sizes_hold c = rw (← c.lengths_hold.ensures, c.if-not-lengths_hold.false, ← c.sizes_hold.ensures, c.if-not-sizes_hold.true) refl
 
-pub all_pass-observations-requires : goal.all_pass-observations-requires
-all_pass-observations-requires c = let l = lengths_are _ _ _ _ _ (sym c.lengths_hold-lengths.ensures ∙ not-false _ c.if-not-lengths.false-raw) in
-    (l.ws_long, l.weights_long)
+pub all_pass-requires : goal.all_pass-requires
+all_pass-requires c = let l = lengths_are _ _ _ _ _ (sym c.lengths_hold.ensures ∙ c.if-not-lengths_hold.false) in (l.ws_long, l.weights_long)
 
-pub returns-then-not-observations : goal.returns-then-not-observations
+pub returns-then-not-all_pass : goal.returns-then-not-all_pass
 unfolding checks_number
-returns-then-not-observations c = goes _ c.lengths_hold-lengths.ensures c.if-not-lengths.false-raw (goes _ c.sizes_hold-sizes.ensures c.if-not-sizes.false-raw (stops _ c.all_pass-observations.ensures c.if-not-observations.true-raw refl))
+returns-then-not-all_pass c = rw (← c.lengths_hold.ensures, c.if-not-lengths_hold.false, ← c.sizes_hold.ensures, c.if-not-sizes_hold.false, ← c.all_pass.ensures, c.if-not-all_pass.true) refl
 
-pub validate-settings-requires : goal.validate-settings-requires
-validate-settings-requires c = tt
-
-pub returns-then-not-settings : goal.returns-then-not-settings
+pub returns-then-not-validate : goal.returns-then-not-validate
 unfolding checks_number
-returns-then-not-settings c = goes _ c.lengths_hold-lengths.ensures c.if-not-lengths.false-raw (goes _ c.sizes_hold-sizes.ensures c.if-not-sizes.false-raw (goes _ c.all_pass-observations.ensures c.if-not-observations.false-raw (stops _ c.validate-settings.ensures c.if-not-settings.true-raw refl)))
+returns-then-not-validate c = rw (← c.lengths_hold.ensures, c.if-not-lengths_hold.false, ← c.sizes_hold.ensures, c.if-not-sizes_hold.false, ← c.all_pass.ensures, c.if-not-all_pass.false, ← c.validate.ensures, c.if-not-validate.true) refl
 
-pub is_positive-expiry-requires : goal.is_positive-expiry-requires
-is_positive-expiry-requires c = tt
-
-pub returns-then-not-expiry : goal.returns-then-not-expiry
+pub returns-then-not-is_positive : goal.returns-then-not-is_positive
 unfolding checks_number
-returns-then-not-expiry c = goes _ c.lengths_hold-lengths.ensures c.if-not-lengths.false-raw (goes _ c.sizes_hold-sizes.ensures c.if-not-sizes.false-raw (goes _ c.all_pass-observations.ensures c.if-not-observations.false-raw (goes _ c.validate-settings.ensures c.if-not-settings.false-raw (stops _ c.is_positive-expiry.ensures c.if-not-expiry.true-raw refl))))
+returns-then-not-is_positive c = rw (← c.lengths_hold.ensures, c.if-not-lengths_hold.false, ← c.sizes_hold.ensures, c.if-not-sizes_hold.false, ← c.all_pass.ensures, c.if-not-all_pass.false, ← c.validate.ensures, c.if-not-validate.false, ← c.is_positive.ensures, c.if-not-is_positive.true) refl
 
 pub returns-then-k-config : goal.returns-then-k-config
 unfolding checks_number
-returns-then-k-config c = goes _ c.lengths_hold-lengths.ensures c.if-not-lengths.false-raw (goes _ c.sizes_hold-sizes.ensures c.if-not-sizes.false-raw (goes _ c.all_pass-observations.ensures c.if-not-observations.false-raw (goes _ c.validate-settings.ensures c.if-not-settings.false-raw (goes _ c.is_positive-expiry.ensures c.if-not-expiry.false-raw (if_false _ (lt-leb _ _ c.if-k-config.true) refl)))))
+returns-then-k-config c = rw (← c.lengths_hold.ensures, c.if-not-lengths_hold.false, ← c.sizes_hold.ensures, c.if-not-sizes_hold.false, ← c.all_pass.ensures, c.if-not-all_pass.false, ← c.validate.ensures, c.if-not-validate.false, ← c.is_positive.ensures, c.if-not-is_positive.false) (if_false _ (lt-leb _ _ c.if-k-config.true) refl)
 
-pub span_of-requires : goal.span_of-requires
-span_of-requires c = tt
-
-pub is_positive-wide-requires : goal.is_positive-wide-requires
-is_positive-wide-requires c = tt
-
-pub returns-then-not-wide : goal.returns-then-not-wide
+pub returns-then-not-is_positive-2 : goal.returns-then-not-is_positive-2
 unfolding checks_number
-returns-then-not-wide c = goes _ c.lengths_hold-lengths.ensures c.if-not-lengths.false-raw (goes _ c.sizes_hold-sizes.ensures c.if-not-sizes.false-raw (goes _ c.all_pass-observations.ensures c.if-not-observations.false-raw (goes _ c.validate-settings.ensures c.if-not-settings.false-raw (goes _ c.is_positive-expiry.ensures c.if-not-expiry.false-raw (if_true _ (le-leb _ _ c.if-k-config.false) (stops _ (c.is_positive-wide.ensures ∙ ap positive c.span_of.ensures) c.if-not-wide.true-raw refl))))))
+returns-then-not-is_positive-2 c = rw (← c.lengths_hold.ensures, c.if-not-lengths_hold.false, ← c.sizes_hold.ensures, c.if-not-sizes_hold.false, ← c.all_pass.ensures, c.if-not-all_pass.false, ← c.validate.ensures, c.if-not-validate.false, ← c.is_positive.ensures, c.if-not-is_positive.false) (if_true _ (le-leb _ _ c.if-k-config.false) (rw (← c.span_of.ensures, ← c.is_positive-2.ensures, c.if-not-is_positive-2.true) refl))
 
 pub returns : goal.returns
 unfolding checks_number
-returns c = goes _ c.lengths_hold-lengths.ensures c.if-not-lengths.false-raw (goes _ c.sizes_hold-sizes.ensures c.if-not-sizes.false-raw (goes _ c.all_pass-observations.ensures c.if-not-observations.false-raw (goes _ c.validate-settings.ensures c.if-not-settings.false-raw (goes _ c.is_positive-expiry.ensures c.if-not-expiry.false-raw (if_true _ (le-leb _ _ c.if-k-config.false) (goes _ (c.is_positive-wide.ensures ∙ ap positive c.span_of.ensures) c.if-not-wide.false-raw refl))))))
+returns c = rw (← c.lengths_hold.ensures, c.if-not-lengths_hold.false, ← c.sizes_hold.ensures, c.if-not-sizes_hold.false, ← c.all_pass.ensures, c.if-not-all_pass.false, ← c.validate.ensures, c.if-not-validate.false, ← c.is_positive.ensures, c.if-not-is_positive.false) (if_true _ (le-leb _ _ c.if-k-config.false) (rw (← c.span_of.ensures, ← c.is_positive-2.ensures, c.if-not-is_positive-2.false) refl))

@@ -8,6 +8,3 @@ use Rattle.exponent.proofs.horner.Given as goal
 
 abbrev pub invariant-loop-j : goal.invariant-loop-j
 invariant-loop-j l = for l.j l.n (λ (j : ℕ) (e : Float). one +f l.x /f num (l.from - j) *f e) l.e ≡ horner_of l.x l.from l.n l.start
-
-abbrev pub decreases-loop-j : goal.decreases-loop-j
-decreases-loop-j l = l.n - l.j

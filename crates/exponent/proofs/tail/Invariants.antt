@@ -8,6 +8,3 @@ use Rattle.exponent.proofs.tail.Given as goal
 
 abbrev pub invariant-loop-j : goal.invariant-loop-j
 invariant-loop-j l = for l.j 11 (λ (j : ℕ) (p : Float). (p +f two /f num (25 - 2 * j)) *f l.z) l.p ≡ tail_of l.z
-
-abbrev pub decreases-loop-j : goal.decreases-loop-j
-decreases-loop-j l = 11 - l.j

@@ -1,12 +1,16 @@
-use borrow.Author.Rules.{rules}
+use Rattle.std.proofs.Common.{sym, ap, ◌∙◌}
 use Rattle.house.proofs.Repeating.{next_met, next_passed, none_next}
+use Rattle.house.specs.Repeats.{same_content}
 use Rattle.house.proofs.agrees_next.Goals as goal
 
-pub returns-then-same_number : goal.returns-then-same_number
-returns-then-same_number c = next_met c.args.q _ c.loop-left.at c.loop-left.left c.u64_at.result _ c.loop-left-test.true c.u64_at.ensures c.loop-left.invariant.1 c.if-same_number.true-raw c.quote_at.result c.quote_at.ensures c.same_content.result c.same_content.ensures
+pub returns-then-number_of-q : goal.returns-then-number_of-q
+returns-then-number_of-q c =
+    c.same_content.ensures ∙ ap (same_content c.args.q) c.quote_of.ensures
+    ∙ next_met c.args.q c.args.after.now c.loop-bytes.bytes-index c.loop-bytes-test.true c.loop-bytes.invariant (sym c.number_of.ensures ∙ c.if-number_of-q.true)
 
-pub loop-left-preserved : goal.loop-left-preserved
-loop-left-preserved c = (search rules, next_passed c.args.q _ c.loop-left.at c.loop-left.left c.u64_at.result _ c.loop-left-test.true c.u64_at.ensures c.loop-left.invariant.1 c.if-same_number.false-raw)
+pub loop-bytes-preserved : goal.loop-bytes-preserved
+loop-bytes-preserved c =
+    next_passed c.args.q c.args.after.now c.loop-bytes.bytes-index c.loop-bytes-test.true c.loop-bytes.invariant (λ z. c.if-number_of-q.false (c.number_of.ensures ∙ z))
 
 pub returns : goal.returns
-returns c = none_next c.args.q _ c.loop-left.at c.loop-left.left _ c.loop-left-test.false c.loop-left.invariant.1
+returns c = none_next c.args.q c.args.after.now c.loop-bytes.bytes-index c.loop-bytes-test.false c.loop-bytes.invariant

@@ -1,12 +1,11 @@
-use borrow.Author.Rules.{rules}
-use Rattle.house.proofs.Repeating.{bad, good, all_good}
+-- `house::all_pass` meets its contract. Assumes nothing.
+use Rattle.std.proofs.Common.{rules, ◌∙◌}
+use Rattle.std.proofs.lemmas.Iterator.{YieldsList-from_slice}
+use Rattle.std.proofs.lemmas.Iterator.Search.{all_from_yields_List}
+use Rattle.house.specs.File.{quote_of}
+use Rattle.house.specs.Check.{quote_passes}
+use Rattle.house.proofs.Repeating.{passes_all}
 use Rattle.house.proofs.all_pass.Goals as goal
 
-pub returns-then-not-quote_passes : goal.returns-then-not-quote_passes
-returns-then-not-quote_passes c = bad c.quote_at.result _ c.loop-left.at c.loop-left.left c.quote_passes.result _ c.loop-left-test.true c.quote_at.ensures c.quote_passes.ensures c.loop-left.invariant.1 c.if-not-quote_passes.true-raw
-
-pub loop-left-preserved : goal.loop-left-preserved
-loop-left-preserved c = (search rules, good c.quote_at.result _ c.loop-left.at c.loop-left.left c.quote_passes.result _ c.loop-left-test.true c.quote_at.ensures c.quote_passes.ensures c.loop-left.invariant.1 c.if-not-quote_passes.false-raw)
-
 pub returns : goal.returns
-returns c = all_good _ c.loop-left.at c.loop-left.left _ c.loop-left-test.false c.loop-left.invariant.1
+returns c = all_from_yields_List (λ s. quote_passes (quote_of s)) _ _ _ c.all.ensures.ran (YieldsList-from_slice c.args.sent.now cc) (λ x b q k. search rules) ∙ passes_all c.args.sent.now

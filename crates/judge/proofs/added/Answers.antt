@@ -1,8 +1,7 @@
 -- `judge::added` meets its contract. Assumes nothing.
-use Rattle.std.proofs.Common.{refl}
 use Rattle.judge.specs.Judge.{added_to}
 use Rattle.judge.proofs.added.Goals as goal
 
 pub returns : goal.returns
 unfolding added_to
-returns c = refl
+returns c = cc

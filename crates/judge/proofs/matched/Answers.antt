@@ -1,8 +1,7 @@
 -- `judge::matched` meets its contract. Assumes nothing.
-use Rattle.std.proofs.Common.{refl}
 use Rattle.judge.specs.Judge.{matched_of}
 use Rattle.judge.proofs.matched.Goals as goal
 
 pub returns : goal.returns
 unfolding matched_of
-returns c = refl
+returns c = cc

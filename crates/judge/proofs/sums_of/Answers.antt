@@ -1,21 +1,16 @@
 -- `judge::sums_of` meets its contract. Assumes nothing.
-use Rattle.std.proofs.Common.{sym, refl, ◌∙◌}
-use borrow.Author.Tests.{not-false}
-use Rattle.laws.proofs.Choices.{stops, goes}
+use Rattle.std.proofs.Common.{rules, sym, ◌∙◌}
 use Rattle.judge.specs.Judge.{matched_sums}
 use Rattle.judge.proofs.Judging.{matched_are}
 use Rattle.judge.proofs.sums_of.Goals as goal
 
-pub matched-equal-requires : goal.matched-equal-requires
-matched-equal-requires c = tt
-
-pub returns-then-not-equal : goal.returns-then-not-equal
-unfolding matched_sums
-returns-then-not-equal c = stops _ c.matched-equal.ensures c.if-not-equal.true-raw refl
-
 pub summed-requires : goal.summed-requires
-summed-requires c = matched_are _ _ _ (sym c.matched-equal.ensures ∙ not-false _ c.if-not-equal.false-raw)
+summed-requires c = matched_are _ _ _ (sym c.matched.ensures ∙ c.if-matched.true)
+
+pub returns-then-matched : goal.returns-then-matched
+unfolding matched_sums
+returns-then-matched c = rw (← c.matched.ensures, c.if-matched.true) c.summed.ensures
 
 pub returns : goal.returns
 unfolding matched_sums
-returns c = goes _ c.matched-equal.ensures c.if-not-equal.false-raw c.summed.ensures
+returns c = rw (← c.matched.ensures, c.if-matched.false) (search rules)

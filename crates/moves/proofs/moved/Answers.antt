@@ -4,15 +4,6 @@ use Rattle.moves.specs.Moves.{moved_of}
 use Rattle.moves.proofs.Cases.{recentre_left, shrink_left}
 use Rattle.moves.proofs.moved.Goals as goal
 
-pub place_of-a-requires : goal.place_of-a-requires
-place_of-a-requires c = tt
-
-pub found_of-o-requires : goal.found_of-o-requires
-found_of-o-requires c = tt
-
-pub can_recentre-requires : goal.can_recentre-requires
-can_recentre-requires c = tt
-
 pub recentre-requires : goal.recentre-requires
 recentre-requires c = recentre_left _ _ _ _ _ (sym c.can_recentre.ensures ∙ c.if-can_recentre.true)
 
@@ -20,18 +11,12 @@ pub returns-then-can_recentre : goal.returns-then-can_recentre
 unfolding moved_of
 returns-then-can_recentre c = rw (← c.place_of-a.ensures, ← c.found_of-o.ensures, ← c.can_recentre.ensures, c.if-can_recentre.true) c.recentre.ensures
 
-pub can_shrink-requires : goal.can_shrink-requires
-can_shrink-requires c = tt
-
 pub shrink-requires : goal.shrink-requires
 shrink-requires c = shrink_left _ _ _ (sym c.can_shrink.ensures ∙ c.if-can_shrink.true)
 
 pub returns-then-can_shrink : goal.returns-then-can_shrink
 unfolding moved_of
 returns-then-can_shrink c = rw (← c.place_of-a.ensures, ← c.found_of-o.ensures, ← c.can_recentre.ensures, c.if-can_recentre.false, ← c.can_shrink.ensures, c.if-can_shrink.true) c.shrink.ensures
-
-pub stop-requires : goal.stop-requires
-stop-requires c = tt
 
 pub returns : goal.returns
 unfolding moved_of

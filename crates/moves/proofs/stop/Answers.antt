@@ -1,8 +1,7 @@
 -- `moves::stop` meets its contract. Assumes nothing.
 use Rattle.moves.specs.Moves.{stopped}
-use Rattle.std.proofs.Common.{refl}
 use Rattle.moves.proofs.stop.Goals as goal
 
 pub returns : goal.returns
 unfolding stopped
-returns c = refl
+returns c = cc

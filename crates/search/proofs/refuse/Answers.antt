@@ -1,8 +1,7 @@
 -- `search::refuse` meets its contract. Assumes nothing.
 use Rattle.search.specs.Search.{search_refused}
-use mathlib.Core.Path.{refl}
 use Rattle.search.proofs.refuse.Goals as goal
 
 pub returns : goal.returns
 unfolding search_refused
-returns c = refl
+returns c = cc

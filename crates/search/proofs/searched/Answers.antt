@@ -1,5 +1,4 @@
 use mathlib.Core.Path.{◌≡◌, sym, ap, ◌∙◌}
-use borrow.Author.Tests.{not-true, not-false}
 use Rattle.search.specs.Search.{after_passes, limit_of}
 use Rattle.search.specs.Run.{fit_cell}
 use Rattle.search.proofs.Trail.{after_start, ended_early, stepped}
@@ -17,26 +16,23 @@ overflow_add-limit c = let z = sizes_are _ c.requires in omega (arith, z.recentr
 pub overflow_add-limit-2 : goal.overflow_add-limit-2
 overflow_add-limit-2 c = let z = sizes_are _ c.requires in omega (arith, z.recentres, z.refinements)
 
-pub start-s-requires : goal.start-s-requires
-start-s-requires c = tt
-
 pub loop-t-init : goal.loop-t-init
 loop-t-init c = (omega arith, c.start-s.ensures ∙ sym (after_start _ _))
 
-pub returns-then-not-s : goal.returns-then-not-s
-returns-then-not-s c = ended_early _ _ _ c.loop-t.t _ c.loop-t.invariant.1 (not-true _ c.if-not-s.true) c.loop-t.invariant.0
+pub returns-then-not-goes_on : goal.returns-then-not-goes_on
+returns-then-not-goes_on c = ended_early _ _ _ c.loop-t.t _ c.loop-t.invariant.1 (sym c.goes_on.ensures ∙ c.if-not-goes_on.true) c.loop-t.invariant.0
 
 pub step-s-requires : goal.step-s-requires
 step-s-requires c = let a = c.args in
     let l = c.loop-t in
     let z = sizes_are a.p c.requires in
-    rw l.invariant.1 (roomy (fit_cell a.ks.now a.ws.now a.weights.now a.l) (fit_most a.ks.now a.ws.now a.weights.now a.l) (fit_few a.ks.now a.ws.now a.weights.now a.l) a.p z.grid z.refinements z.recentres l.t l.invariant.0)
+    rw l.invariant.1 (roomy (fit_cell a.o.ks.now a.o.ws.now a.o.weights.now a.o.l) (fit_most a.o.ks.now a.o.ws.now a.o.weights.now a.o.l) (fit_few a.o.ks.now a.o.ws.now a.o.weights.now a.o.l) a.p z.grid z.refinements z.recentres l.t l.invariant.0)
 
 pub overflow_step-t : goal.overflow_step-t
 overflow_step-t c = let z = sizes_are _ c.requires in omega (arith, c.loop-t-test.true, z.recentres, z.refinements)
 
 pub loop-t-preserved : goal.loop-t-preserved
-loop-t-preserved c = (omega arith, stepped _ _ c.loop-t.s _ c.loop-t.t c.loop-t.invariant.1 (not-false _ c.if-not-s.false) c.step-s.ensures)
+loop-t-preserved c = (omega arith, stepped _ _ c.loop-t.s _ c.loop-t.t c.loop-t.invariant.1 (sym c.goes_on.ensures ∙ c.if-not-goes_on.false) c.step-s.ensures)
 
 pub returns : goal.returns
 returns c = let e : c.loop-t.t ≡ limit_of c.args.p = omega (arith, c.loop-t-test.false, c.loop-t.invariant.0) in

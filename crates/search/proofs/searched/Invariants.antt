@@ -6,7 +6,7 @@ use Rattle.search.specs.Run.{fit_cell}
 use Rattle.search.proofs.searched.Given as goal
 
 abbrev pub invariant-loop-t : goal.invariant-loop-t
-invariant-loop-t l = (l.t ≤ limit_of l.p) × (l.s ≡ after_passes (fit_cell l.ks l.ws l.weights l.l) l.p l.t)
+invariant-loop-t l = (l.t ≤ limit_of l.p) × (l.s ≡ after_passes (fit_cell l.o.ks.now l.o.ws.now l.o.weights.now l.o.l) l.p l.t)
 
 abbrev pub decreases-loop-t : goal.decreases-loop-t
 decreases-loop-t l = limit_of l.p - l.t

@@ -1,8 +1,7 @@
 -- `search::sizes_hold` meets its contract. Assumes nothing.
 use Rattle.search.specs.Run.{plan_sizes_hold}
-use mathlib.Core.Path.{refl}
 use Rattle.search.proofs.sizes_hold.Goals as goal
 
 pub returns : goal.returns
 unfolding plan_sizes_hold
-returns c = refl
+returns c = cc

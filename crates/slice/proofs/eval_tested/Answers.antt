@@ -1,13 +1,13 @@
 -- `slice::eval_tested` meets its contract. Assumes nothing.
 use Rattle.laws.proofs.Choices.{if_true, if_false}
-use mathlib.Core.Path.{refl, ◌∙◌, sym, ap}
+use mathlib.Core.Path.{refl, ◌∙◌, ap}
 use Rattle.slice.specs.Slice.{eval_raw, judged_of}
 use Rattle.slice.proofs.eval_tested.Goals as goal
 
-pub returns-then-good : goal.returns-then-good
+pub returns-then-is_finite : goal.returns-then-is_finite
 unfolding eval_raw
-returns-then-good c = if_true _ (sym c.is_finite-good.ensures ∙ c.if-good.true) (c.judged.ensures ∙ ap (judged_of _) c.values_at.ensures)
+returns-then-is_finite c = rw (← c.is_finite.ensures) (if_true _ c.if-is_finite.true (c.judged.ensures ∙ ap (judged_of _) c.values_at.ensures))
 
 pub returns : goal.returns
 unfolding eval_raw
-returns c = if_false _ (sym c.is_finite-good.ensures ∙ c.if-good.false) refl
+returns c = rw (← c.is_finite.ensures) (if_false _ c.if-is_finite.false refl)

@@ -1,14 +1,17 @@
-use mathlib.Core.Path.{refl}
+-- `solver::first` meets its contract. Assumes nothing.
+use mathlib.Core.Path.{◌≡◌, ap, ◌∙◌}
+use Prim.Native.Nat.{ℕ, ◌+◌, ◌-◌}
+use native.Mathlib.Omega.{arith}
+use lib.ListN.{take, drop, set, replicate}
+use Rattle.laws.specs.Floats.{+0, at}
+use Rattle.laws.proofs.Loops.{for_same}
 use Rattle.solver.specs.Rows.{front_of}
-use Rattle.laws.proofs.Loops.{again, ended}
+use Rattle.solver.proofs.Copies.{put}
 use Rattle.solver.proofs.first.Goals as goal
 
-pub loop-i-init : goal.loop-i-init
-unfolding front_of
-loop-i-init c = refl
-
-pub loop-i-preserved : goal.loop-i-preserved
-loop-i-preserved c = again _ _ _ c.loop-i-test.true refl c.loop-i.invariant
-
 pub returns : goal.returns
-returns c = ended _ _ _ c.loop-i-test.false c.loop-i.invariant
+unfolding front_of
+returns c = let a = c.args in
+    let e : 6 - (6 - a.n) ≡ a.n = omega (arith, c.requires) in
+    put 0 (6 - a.n) a.n a.x.now (replicate 6 +0) (omega (arith, c.requires)) (omega (arith, c.requires, c.told-x)) (c.copy_from_slice.ensures.after ∙ ap (λ (k : ℕ). take k (drop (6 - a.n) a.x.now)) e)
+    ∙ for_same _ _ a.n (λ j h s. ap (λ (k : ℕ). set s k (at a.x.now (6 - a.n + j))) (omega arith)) (replicate 6 +0)

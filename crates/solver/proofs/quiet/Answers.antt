@@ -1,9 +1,9 @@
 -- `solver::quiet` meets its contract. Assumes nothing.
 use mathlib.Core.Path.{sym, ◌∙◌}
-use lib.Ieee.{div, of_bits}
-use Rattle.laws.proofs.Floats.{is_nan_lem, nan_test}
+use lib.Ieee.{of_bits}
+use Rattle.laws.proofs.Floats.{is_nan_lem}
 use Rattle.solver.proofs.quiet.Goals as goal
 
-pub returns-then-x : goal.returns-then-x
-unfolding div of_bits
-returns-then-x c = sym (is_nan_lem _ (sym (nan_test _) ∙ c.if-x.true))
+pub returns-then-is_nan : goal.returns-then-is_nan
+unfolding of_bits
+returns-then-is_nan c = sym (is_nan_lem _ (sym c.is_nan.ensures.value ∙ c.if-is_nan.true))

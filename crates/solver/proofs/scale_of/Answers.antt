@@ -5,15 +5,11 @@ use Rattle.solver.specs.Solve.{scale_of}
 use Rattle.laws.proofs.Loops.{again, ended}
 use Rattle.solver.specs.Rows.{NotBelowZero}
 use Rattle.solver.proofs.Steps.{zero_not_below, both_not_below, row_from}
-use native.Mathlib.Omega.{arith}
 use Rattle.solver.proofs.scale_of.Goals as goal
 
 pub loop-i-init : goal.loop-i-init
 unfolding scale_of
 loop-i-init c = (refl, zero_not_below)
-
-pub row_scale-requires : goal.row_scale-requires
-row_scale-requires c = (c.requires, omega arith)
 
 pub loop-i-preserved : goal.loop-i-preserved
 loop-i-preserved c = let r = c.row_scale in

@@ -1,5 +1,5 @@
 -- `surface::copied` meets its contract: one more record is copied in each turn. Assumes nothing.
-use Rattle.std.proofs.Common.{◌∙◌, ap, get_or, take, arith}
+use Rattle.std.proofs.Common.{◌∙◌, ap, get_or, take}
 use Rattle.std.proofs.lemmas.List.{get_or_default}
 use Rattle.slice.specs.declared.SviSlice.{SviSlice}
 use Rattle.slice.specs.Slice.{no_slice}
@@ -9,12 +9,10 @@ use Rattle.surface.specs.declared.types.Run.{Run}
 use Rattle.surface.proofs.Padded.{push_next}
 use Rattle.surface.proofs.copied.Goals as goal
 
-pub loop-i-preserved : goal.loop-i-preserved
-loop-i-preserved c =
+pub loop-x-preserved : goal.loop-x-preserved
+loop-x-preserved c =
     let s = c.args.s.now in
-    let i = c.loop-i.i in
-    let within = c.loop-i-test.true in (
-      omega arith,
-      c.push-run.ensures ∙ ap (λ (r : Run). pushed r (get_or s i past)) c.loop-i.invariant.1
-          ∙ ap (λ (x : SviSlice). pushed (run_of (take i s)) x) (get_or_default s i past no_slice within) ∙ push_next s i within,
-    )
+    let i = c.loop-x.x-index in
+    let within = c.loop-x-test.true in
+    c.push.ensures ∙ ap (λ (r : Run). pushed r (get_or s i past)) c.loop-x.invariant
+    ∙ ap (λ (x : SviSlice). pushed (run_of (take i s)) x) (get_or_default s i past no_slice within) ∙ push_next s i within

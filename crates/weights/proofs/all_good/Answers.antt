@@ -1,12 +1,13 @@
-use mathlib.Core.Path.{ap}
-use mathlib.Core.Bool.{Bool, ◌&&◌}
-use lib.Ieee.{lt}
-use Rattle.laws.specs.Floats.{+0, at}
-use Rattle.laws.proofs.Loops.{again, ended}
+-- `weights::all_good` meets its contract. Assumes nothing.
+use Rattle.std.proofs.Common.{rules, sym, ◌∙◌}
+use lib.Ieee.{nan}
+use Rattle.std.proofs.lemmas.Iterator.{YieldsList-from_slice}
+use Rattle.std.proofs.lemmas.Iterator.Search.{all_from_yields_List}
+use Rattle.laws.specs.Floats.{positive}
+use Rattle.laws.proofs.Folds.{for_all}
+use Rattle.weights.specs.Weights.{all_good}
 use Rattle.weights.proofs.all_good.Goals as goal
 
-pub loop-i-preserved : goal.loop-i-preserved
-loop-i-preserved c = again _ _ _ c.loop-i-test.true (ap (λ (b : Bool). c.loop-i.good && (b && lt +0 (at c.args.a.now c.loop-i.i))) c.is_finite.ensures) c.loop-i.invariant
-
 pub returns : goal.returns
-returns c = ended _ _ _ c.loop-i-test.false c.loop-i.invariant
+unfolding all_good
+returns c = all_from_yields_List positive _ _ _ c.all.ensures.ran (YieldsList-from_slice c.args.a.now cc) (λ x b q k. search rules) ∙ sym (for_all positive nan c.args.a.now)

@@ -1,21 +1,13 @@
-use mathlib.Core.Path.{◌≡◌, ◌∙◌}
-use lib.ListN.{length-set}
-use Rattle.weights.proofs.Places.{passing_start, passing_next, passing_end}
-use native.Mathlib.Omega.{arith}
+use Rattle.std.proofs.Common.{◌≡◌, ℕ, take, subst, arith}
+use Rattle.std.proofs.lemmas.List.{length-take-le}
+use Rattle.weights.proofs.Places.{Passing, passing_next, passing_room}
 use Rattle.weights.proofs.insert.Goals as goal
 
-pub loop-k-init : goal.loop-k-init
-loop-k-init c = passing_start _ _ _
-
-pub loop-k-preserved : goal.loop-k-preserved
-loop-k-preserved c = let l = c.loop-k in
-    rw (c.pick-carry.ensures, c.pick.ensures)
-    (passing_next c.args.n l.k c.args.x l.carry c.args.a.now l.a c.loop-k-test.true c.requires l.invariant)
-
-pub shape_of-a : goal.shape_of-a
-shape_of-a c = length-set c.loop-k.a c.args.n _ ∙ c.loop-k.invariant.long
+pub loop-y-preserved : goal.loop-y-preserved
+loop-y-preserved c = rw (c.pick.ensures, c.pick-carry.ensures) (passing_next _ _ _ _ _ (omega arith) c.loop-y.invariant)
 
 pub returns : goal.returns
-returns c = let l = c.loop-k in
-    let e : l.k ≡ c.args.n = omega arith in
-    passing_end c.args.n c.args.x l.carry c.args.a.now l.a c.requires (rw e at l.invariant)
+returns c =
+    let l = c.loop-y in
+    let e : l.y-index ≡ c.args.n = omega (arith, c.loop-y-test.false, l.auto.y-items, l.auto.y-index-end, length-take-le c.args.n c.args.a.now (omega arith)) in
+    passing_room _ _ _ _ _ (omega arith) (subst (λ (k : ℕ). Passing k c.args.x l.carry (take c.args.n c.args.a.now) l.y-items) e l.invariant)

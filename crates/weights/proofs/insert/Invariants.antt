@@ -1,10 +1,7 @@
 -- `weights::insert` meets its contract. Assumes nothing.
-use Prim.Native.Nat.{◌-◌}
+use Rattle.std.proofs.Common.{take}
 use Rattle.weights.proofs.Places.{Passing}
 use Rattle.weights.proofs.insert.Given as goal
 
-abbrev pub invariant-loop-k : goal.invariant-loop-k
-invariant-loop-k l = Passing l.n l.k l.x l.carry l.initial.a l.a
-
-abbrev pub decreases-loop-k : goal.decreases-loop-k
-decreases-loop-k l = l.n - l.k
+abbrev pub invariant-loop-y : goal.invariant-loop-y
+invariant-loop-y l = Passing l.y-index l.x l.carry (take l.n l.fn.a) l.y-items

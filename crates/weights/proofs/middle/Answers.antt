@@ -3,10 +3,10 @@ use borrow.Author.Tests.{eq-eqb, ne_eqb}
 use Rattle.weights.specs.Weights.{mid_of}
 use Rattle.weights.proofs.middle.Goals as goal
 
-pub returns-then-n-eq0 : goal.returns-then-n-eq0
+pub returns-then-a-eq0 : goal.returns-then-a-eq0
 unfolding mid_of
-returns-then-n-eq0 c = simp (eq-eqb _ _ c.if-n-eq0.true)
+returns-then-a-eq0 c = simp (eq-eqb _ _ c.if-a-eq0.true)
 
 pub returns : goal.returns
 unfolding mid_of
-returns c = simp (ne_eqb _ _ c.if-n-eq0.false)
+returns c = simp (ne_eqb _ _ c.if-a-eq0.false)

@@ -11,9 +11,6 @@ pub loop-i-init : goal.loop-i-init
 unfolding active_of
 loop-i-init c = refl
 
-pub dot-requires : goal.dot-requires
-dot-requires c = tt
-
 pub loop-i-preserved : goal.loop-i-preserved
 loop-i-preserved c = let l = c.loop-i in
     again _ _ _ c.loop-i-test.true (ap (λ (d : Float). set l.t l.i (get_or l.t l.i false || le c.args.slack (d -f at c.args.h.now l.i))) c.dot.ensures) l.invariant

@@ -1,6 +1,5 @@
 -- `calibrate::params::active_set` meets its contract. Assumes nothing.
 use mathlib.Core.Path.{◌≡◌}
-use Prim.Native.Nat.{◌-◌}
 use Rattle.laws.specs.Loop.{for}
 use Rattle.laws.specs.Floats.{at, ◌-f◌}
 use mathlib.Core.Bool.{false, ◌||◌}
@@ -12,6 +11,3 @@ use Rattle.calibrate.proofs.params.active_set.Given as goal
 
 abbrev pub invariant-loop-i : goal.invariant-loop-i
 invariant-loop-i l = for l.i 7 (λ i t. set t i (get_or t i false || le l.slack (dot_of l.g l.x i -f at l.h i))) l.t ≡ active_of l.initial.t l.g l.h l.x l.slack
-
-abbrev pub decreases-loop-i : goal.decreases-loop-i
-decreases-loop-i l = 7 - l.i

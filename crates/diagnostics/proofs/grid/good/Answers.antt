@@ -1,8 +1,7 @@
 -- `diagnostics::grid::good` meets its contract. Assumes nothing.
 use Rattle.diagnostics.specs.Walk.{good_of}
-use Rattle.diagnostics.proofs.Standing.{good_by}
 use Rattle.diagnostics.proofs.grid.good.Goals as goal
 
 pub returns : goal.returns
 unfolding good_of
-returns c = good_by _ _ c.recorded-butterfly.ensures c.recorded-slope.ensures c.gap_after-gap.ensures
+returns c = cc

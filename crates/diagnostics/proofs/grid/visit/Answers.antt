@@ -7,18 +7,18 @@ use Rattle.diagnostics.specs.declared.grid.Walk.{Walk}
 use native.Mathlib.Omega.{arith}
 use Rattle.diagnostics.proofs.grid.visit.Goals as goal
 
-pub bounds-room-at-in-Failed : goal.bounds-room-at-in-Failed
-bounds-room-at-in-Failed c = simp length-set (omega arith)
+pub bounds-room-at-in-Err : goal.bounds-room-at-in-Err
+bounds-room-at-in-Err c = simp length-set (omega arith)
 
-pub bounds-room-at-in-Failed-2 : goal.bounds-room-at-in-Failed-2
-bounds-room-at-in-Failed-2 c = simp length-set (omega arith)
+pub bounds-room-at-in-Err-2 : goal.bounds-room-at-in-Err-2
+bounds-room-at-in-Err-2 c = simp length-set (omega arith)
 
-pub returns-in-Good : goal.returns-in-Good
+pub returns-in-Ok : goal.returns-in-Ok
 unfolding good_of visit_of
-returns-in-Good c = let e : c.good.result.failed ≡ c.args.s.failed = ap (λ (w : Walk). w.failed) c.good.ensures in
-    record { room_after = rw c.in-Good.is (ap (λ (w : Walk). walk_in w c.args.room.now) c.good.ensures); failed_bound = omega arith }
+returns-in-Ok c = let e : c.good.result.failed ≡ c.args.s.failed = ap (λ (w : Walk). w.failed) c.good.ensures in
+    record { room_after = rw c.in-Ok.is (ap (λ (w : Walk). walk_in w c.args.room.now) c.good.ensures); failed_bound = omega arith }
 
-pub returns-in-Failed : goal.returns-in-Failed
+pub returns-in-Err : goal.returns-in-Err
 unfolding failed_of failure_at visit_of
-returns-in-Failed c = let e = ap (λ (w : Walk). w.failed) c.failed_at.ensures in
-    record { room_after = rw c.in-Failed.is (same_walk c.failed_at.ensures); failed_bound = omega (arith, e) }
+returns-in-Err c = let e = ap (λ (w : Walk). w.failed) c.failed_at.ensures in
+    record { room_after = rw (c.in-Err.is, ← c.number.ensures) (same_walk c.failed_at.ensures); failed_bound = omega (arith, e) }

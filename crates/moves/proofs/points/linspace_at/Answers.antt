@@ -5,18 +5,9 @@ use Rattle.laws.proofs.Choices.{if_true, if_false}
 use Rattle.moves.specs.Axis.{linspace_at}
 use Rattle.moves.proofs.points.linspace_at.Goals as goal
 
-pub last_of-last-requires : goal.last_of-last-requires
-last_of-last-requires c = tt
-
 pub returns-then-i-last : goal.returns-then-i-last
 unfolding linspace_at
 returns-then-i-last c = if_true _ (eq-eqb _ _ (c.if-i-last.true ∙ c.last_of-last.ensures)) refl
-
-pub nearest_u64_to_f64-requires : goal.nearest_u64_to_f64-requires
-nearest_u64_to_f64-requires c = tt
-
-pub nearest_u64_to_f64-requires-2 : goal.nearest_u64_to_f64-requires-2
-nearest_u64_to_f64-requires-2 c = tt
 
 pub returns : goal.returns
 unfolding linspace_at

@@ -16,15 +16,15 @@ pub float_to_bits-c : goal.float_to_bits-c
 float_to_bits-c c = self_same _ c.if-guess.false
 
 pub float_from_bits-result : goal.float_from_bits-result
-float_from_bits-result c = below_nan c.below_one.result c.below_one.ensures.0
+float_from_bits-result c = below_nan c.from_pattern.result c.from_pattern.ensures.1
 
-pub returns-then-a-lt4607182418800017408 : goal.returns-then-a-lt4607182418800017408
-returns-then-a-lt4607182418800017408 c = let held : T (fits binary64 c.args.y) = subst T (sym c.well_formed.0.1) tt in
-    c.below_one.ensures.1 ∙ ap root_units (add_comm _ _) ∙ beside_one c.args.y held c.if-a-ge9218868437227405312.false
+pub returns-then-a-lt-ONE : goal.returns-then-a-lt-ONE
+returns-then-a-lt-ONE c = let held : T (fits binary64 c.args.y) = subst T (sym c.well_formed.0.1) tt in
+    c.from_pattern.ensures.0 ∙ ap root_units (add_comm _ _) ∙ beside_one c.args.y held c.if-a-ge-INFINITY.false
 
 pub float_from_bits-result-2 : goal.float_from_bits-result-2
-float_from_bits-result-2 c = below_nan c.from_one.result c.from_one.ensures.0
+float_from_bits-result-2 c = below_nan c.from_pattern-2.result c.from_pattern-2.ensures.1
 
 pub returns : goal.returns
 returns c = let held : T (fits binary64 c.args.y) = subst T (sym c.well_formed.0.1) tt in
-    c.from_one.ensures.1 ∙ beside_one c.args.y held c.if-a-ge9218868437227405312.false
+    c.from_pattern-2.ensures.0 ∙ beside_one c.args.y held c.if-a-ge-INFINITY.false

@@ -1,12 +1,6 @@
-use mathlib.Core.Path.{refl, ◌∙◌}
+use mathlib.Core.Path.{◌∙◌}
 use Rattle.laws.proofs.Rooms.{filled_over}
 use Rattle.roots.proofs.lengths.guesses.Goals as goal
 
-pub loop-i-init : goal.loop-i-init
-loop-i-init c = λ v. refl
-
 pub loop-i-preserved : goal.loop-i-preserved
 loop-i-preserved c = λ v. filled_over v _ _ _ _ c.loop-i-test.true ∙ c.loop-i.invariant v
-
-pub returns : goal.returns
-returns c = c.loop-i.invariant

@@ -7,5 +7,5 @@ use Rattle.roots.proofs.near.near_digits.Goals as goal
 pub float_from_bits-x : goal.float_from_bits-x
 float_from_bits-x c = below_nan _ (omega arith)
 
-pub float_to_bits-result : goal.float_to_bits-result
-float_to_bits-result c = self_same _ c.if-h.false
+pub float_to_bits-f : goal.float_to_bits-f
+float_to_bits-f c = self_same _ c.if-h.false

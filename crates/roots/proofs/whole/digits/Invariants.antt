@@ -6,6 +6,3 @@ use Rattle.roots.proofs.whole.digits.Given as goal
 
 abbrev pub invariant-loop-left : goal.invariant-loop-left
 invariant-loop-left l = Head ((sq l.initial.root + l.initial.rem) * 2 ^ (l.pairs * 2) + l.word) l.word l.left l.root l.rem
-
-abbrev pub decreases-loop-left : goal.decreases-loop-left
-decreases-loop-left l = l.left

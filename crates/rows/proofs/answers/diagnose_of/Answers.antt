@@ -1,6 +1,13 @@
 -- `rows::answers::diagnose_of` meets its contract. Assumes nothing.
-use Rattle.rows.proofs.Told.{told}
+use mathlib.Core.Path.{refl}
+use Rattle.rows.specs.Answers.{diagnosed_for, room_for}
 use Rattle.rows.proofs.answers.diagnose_of.Goals as goal
 
 pub returns : goal.returns
-returns c = told c.args.run c.args.policy c.args.ks.now c.args.taus.now c.args.butterfly_tolerance c.args.calendar_tolerance c.args.room.now c.policy_of.ensures c.diagnose_run.ensures c.diagnosed_answer-a.ensures c.write_diagnosed.ensures
+unfolding diagnosed_for room_for
+returns c = (
+  rw (← c.policy_of.ensures, ← c.diagnose_run-report.ensures.0, ← c.no_diagnostics.ensures, ← c.told-a.ensures) refl,
+  rw (room_for, ← c.policy_of.ensures) c.diagnose_run-report.ensures.1,
+  rw (← c.policy_of.ensures, ← c.diagnose_run-report.ensures.0, ← c.no_diagnostics.ensures, ← c.told-a.ensures) c.write_report.ensures.0,
+  rw (← c.policy_of.ensures, ← c.diagnose_run-report.ensures.0, ← c.no_diagnostics.ensures, ← c.told-a.ensures) c.write_report.ensures.1,
+)

@@ -3,9 +3,6 @@ use mathlib.Core.Path.{sym, ◌∙◌}
 use Rattle.search.specs.Search.{consider}
 use Rattle.search.proofs.grid.considered.Goals as goal
 
-pub better_than-requires : goal.better_than-requires
-better_than-requires c = tt
-
 pub returns-then-better_than : goal.returns-then-better_than
 unfolding consider
 returns-then-better_than c = rw (sym c.better_than.ensures ∙ c.if-better_than.true)

@@ -10,12 +10,6 @@ pub loop-j-init : goal.loop-j-init
 unfolding filled_on
 loop-j-init c = refl
 
-pub linspace_at-requires : goal.linspace_at-requires
-linspace_at-requires c = tt
-
-pub exp-requires : goal.exp-requires
-exp-requires c = tt
-
 pub loop-j-preserved : goal.loop-j-preserved
 unfolding sigma_at
 loop-j-preserved c = let l = c.loop-j in

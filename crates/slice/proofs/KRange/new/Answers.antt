@@ -1,14 +1,14 @@
 -- `slice::KRange::new` meets its contract. Assumes nothing.
-use Rattle.laws.proofs.Choices.{number_goes, number_no}
+use Rattle.refusals.proofs.Numbers.{check_passes, check_refuses}
+use Rattle.std.specs.Prelude.{Err}
 use mathlib.Core.Path.{refl}
 use Rattle.slice.specs.Slice.{ranged_of}
-use Rattle.slice.specs.declared.Ranged.TheVariants as ranged
 use Rattle.slice.proofs.KRange.new.Goals as goal
 
-pub returns-then-n-eq0 : goal.returns-then-n-eq0
+pub returns-in_err-check_range : goal.returns-in_err-check_range
 unfolding ranged_of
-returns-then-n-eq0 c = number_goes _ c.range_number-n.ensures c.if-n-eq0.true refl
+returns-in_err-check_range c = check_refuses _ c.from_residual.result _ c.from_residual.ensures.1 c.in_err-check_range.ensures
 
 pub returns : goal.returns
 unfolding ranged_of
-returns c = number_no _ ranged.Refused c.range_number-n.ensures c.if-n-eq0.false
+returns c = check_passes Err c.in_ok-check_range.ensures refl

@@ -1,13 +1,13 @@
 -- `slice::SviSlice::eval` meets its contract. Assumes nothing.
-use Rattle.laws.proofs.Choices.{number_goes, number_no}
+use Rattle.refusals.proofs.Numbers.{check_passes, check_refuses}
+use Rattle.std.specs.Prelude.{Err}
 use Rattle.slice.specs.Slice.{eval_of}
-use Rattle.slice.specs.declared.Evaluated.TheVariants as evaluated
 use Rattle.slice.proofs.SviSlice.eval.Goals as goal
 
-pub returns-then-n-eq0 : goal.returns-then-n-eq0
+pub returns-in_err-check : goal.returns-in_err-check
 unfolding eval_of
-returns-then-n-eq0 c = number_goes _ c.number-n.ensures c.if-n-eq0.true c.eval_tested.ensures
+returns-in_err-check c = check_refuses _ c.from_residual.result _ c.from_residual.ensures.1 c.in_err-check.ensures
 
 pub returns : goal.returns
 unfolding eval_of
-returns c = number_no _ evaluated.Refused c.number-n.ensures c.if-n-eq0.false
+returns c = check_passes Err c.in_ok-check.ensures c.eval_tested.ensures

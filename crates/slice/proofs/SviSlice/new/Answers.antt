@@ -1,14 +1,14 @@
 -- `slice::SviSlice::new` meets its contract. Assumes nothing.
-use Rattle.laws.proofs.Choices.{number_goes, number_no}
+use Rattle.refusals.proofs.Numbers.{check_passes, check_refuses}
+use Rattle.std.specs.Prelude.{Err}
 use mathlib.Core.Path.{refl}
 use Rattle.slice.specs.Slice.{made_of}
-use Rattle.slice.specs.declared.Made.TheVariants as made
 use Rattle.slice.proofs.SviSlice.new.Goals as goal
 
-pub returns-then-n-eq0 : goal.returns-then-n-eq0
+pub returns-in_err-check : goal.returns-in_err-check
 unfolding made_of
-returns-then-n-eq0 c = number_goes _ c.number-n.ensures c.if-n-eq0.true refl
+returns-in_err-check c = check_refuses _ c.from_residual.result _ c.from_residual.ensures.1 c.in_err-check.ensures
 
 pub returns : goal.returns
 unfolding made_of
-returns c = number_no _ made.Refused c.number-n.ensures c.if-n-eq0.false
+returns c = check_passes Err c.in_ok-check.ensures refl

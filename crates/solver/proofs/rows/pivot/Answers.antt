@@ -9,7 +9,7 @@ use Rattle.laws.proofs.Choices.{if_true, if_false}
 use Rattle.solver.proofs.Steps.{ranked_least, ranked_nan, ranked_not}
 use native.Mathlib.Omega.{arith}
 use Rattle.solver.proofs.rows.pivot.Goals as goal
-use Rattle.solver.proofs.rows.pivot.Goals.{then-top-size, else-top-size+then-size, else-top-size+else-size}
+use Rattle.solver.proofs.rows.pivot.Goals.{then-top-size, else-top-size+then-is_nan, else-top-size+else-is_nan}
 
 pub loop-i-init : goal.loop-i-init
 unfolding pivot_in
@@ -28,8 +28,8 @@ loop-i-preserved c =
     let next = again _ _ _ c.loop-i-test.true in
     elim c.if-top-size.branch [
       | then-top-size w ↦ (omega arith, there m a.col (w.top-is ∙ size) w.p-is, next (if_true _ (ranked_least _ _ _ _ l.invariant.1 size w.if-top-size.true) w.p-is) l.invariant.2)
-      | else-top-size+then-size w ↦ (omega arith, there m a.col (w.top-is ∙ size) w.p-is, next (if_true _ (ranked_nan _ _ _ _ l.invariant.1 size w.if-size.true) w.p-is) l.invariant.2)
-      | else-top-size+else-size w ↦ (omega arith, there m a.col (w.top-is ∙ l.invariant.1) w.p-is, next (if_false _ (ranked_not _ _ _ _ l.invariant.1 size w.if-top-size.false w.if-size.false) w.p-is) l.invariant.2)
+      | else-top-size+then-is_nan w ↦ (omega arith, there m a.col (w.top-is ∙ size) w.p-is, next (if_true _ (ranked_nan _ _ _ _ l.invariant.1 size (sym w.is_nan.ensures.value ∙ w.if-is_nan.true)) w.p-is) l.invariant.2)
+      | else-top-size+else-is_nan w ↦ (omega arith, there m a.col (w.top-is ∙ l.invariant.1) w.p-is, next (if_false _ (ranked_not _ _ _ _ l.invariant.1 size w.if-top-size.false (sym w.is_nan.ensures.value ∙ w.if-is_nan.false)) w.p-is) l.invariant.2)
     ]
 
 pub returns : goal.returns

@@ -1,15 +1,17 @@
+-- `surface::answers::all_held` meets its contract. Assumes nothing.
+use Rattle.std.proofs.Common.{rules, sym, ◌∙◌, take}
+use Rattle.std.proofs.lemmas.Iterator.{YieldsList-from_slice}
+use Rattle.std.proofs.lemmas.Iterator.Search.{all_from_yields_List}
+use Rattle.surface.specs.Axis.{held_of}
+use Rattle.surface.specs.Runs.{past}
 use Rattle.surface.specs.Surface.{all_held}
-use Rattle.laws.proofs.Loops.{again, ended}
-use mathlib.Core.Path.{refl, ap}
-use mathlib.Core.Bool.{Bool, ◌&&◌}
+use Rattle.surface.proofs.Fronts.{held_front}
+use Rattle.laws.proofs.Folds.{for_all}
 use Rattle.surface.proofs.answers.all_held.Goals as goal
 
-pub loop-i-init : goal.loop-i-init
-unfolding all_held
-loop-i-init c = refl
-
-pub loop-i-preserved : goal.loop-i-preserved
-loop-i-preserved c = again _ _ _ c.loop-i-test.true (ap (λ (b : Bool). c.loop-i.ok && b) c.holds-ok.ensures) c.loop-i.invariant
-
 pub returns : goal.returns
-returns c = ended _ _ _ c.loop-i-test.false c.loop-i.invariant
+unfolding all_held
+returns c =
+    all_from_yields_List (λ s. held_of c.args.tau.now s.tau) c.all.new.self _ _ c.all.ensures.ran (YieldsList-from_slice (take c.args.n c.args.recs.now) cc) (λ x b q k. search rules)
+    ∙ sym (for_all (λ s. held_of c.args.tau.now s.tau) past (take c.args.n c.args.recs.now))
+    ∙ held_front c.args.recs.now c.args.n (search rules) c.args.tau.now

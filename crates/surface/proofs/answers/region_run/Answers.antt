@@ -1,17 +1,17 @@
 -- `surface::answers::region_run` meets its contract. Assumes nothing.
-use Rattle.surface.specs.Surface.{region_run, region_in}
-use Rattle.laws.proofs.Choices.{number_goes, number_no}
-use Rattle.surface.specs.declared.types.Region.TheVariants as region
+use Rattle.std.specs.Prelude.{Err}
 use mathlib.Core.Path.{ap, ◌∙◌}
-use Rattle.surface.proofs.Passed.{bracket_of_lem}
-use Rattle.surface.specs.declared.types.Bracket.{Bracket}
+use Rattle.refusals.proofs.Numbers.{check_passes, check_refuses}
+use Rattle.surface.specs.declared.types.Nodes.{Nodes}
+use Rattle.surface.specs.Lookup.{bracket_of}
+use Rattle.surface.specs.Surface.{region_run, region_in, bracket_in}
 use Rattle.surface.proofs.answers.region_run.Goals as goal
 
-pub returns-then-bad-eq0 : goal.returns-then-bad-eq0
+pub returns-in_err-check_run : goal.returns-in_err-check_run
 unfolding region_run
-returns-then-bad-eq0 c = let a = c.args in
-    number_goes _ c.check_run-bad.ensures c.if-bad-eq0.true (c.region_in.ensures ∙ ap (λ (b : Bracket). region_in a.run.recs b a.k) (c.bracket_at-b.ensures.0 ∙ bracket_of_lem a.run c.taus_of-taus.ensures c.tolerances-tols.ensures a.policy a.k a.tau))
+returns-in_err-check_run c = check_refuses _ c.from_residual.result _ c.from_residual.ensures.1 c.in_err-check_run.ensures
 
 pub returns : goal.returns
-unfolding region_run
-returns c = number_no _ region.Refused c.check_run-bad.ensures c.if-bad-eq0.false
+unfolding region_run bracket_in
+returns c = let a = c.args in
+    check_passes Err c.in_ok-check_run.ensures (c.region.ensures ∙ ap (λ (m : Nodes). region_in a.run.recs (bracket_of m.taus m.tols m.count a.policy a.k a.tau) a.k) c.of.ensures)

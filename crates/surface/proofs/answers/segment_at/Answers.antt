@@ -1,11 +1,16 @@
 -- `surface::answers::segment_at` meets its contract. Assumes nothing.
-use Rattle.surface.specs.Surface.{segment_of, blend_of}
-use Rattle.slice.specs.declared.Evaluated.{Evaluated}
-use Rattle.laws.specs.Floats.{◌-f◌}
-use mathlib.Core.Path.{ap₂, ◌∙◌}
+use Rattle.surface.specs.Surface.{segment_of}
+use Rattle.refusals.proofs.Numbers.{handed_on}
 use Rattle.surface.proofs.answers.segment_at.Goals as goal
+
+pub returns-in_err-l : goal.returns-in_err-l
+unfolding segment_of
+returns-in_err-l c = rw (← c.in_err-l.ensures) (handed_on _ _ c.from_residual.ensures.1)
+
+pub returns-in_err-h : goal.returns-in_err-h
+unfolding segment_of
+returns-in_err-h c = rw (← c.in_ok-l.ensures, ← c.in_err-h.ensures) (handed_on _ _ c.from_residual-in_err-h.ensures.1)
 
 pub returns : goal.returns
 unfolding segment_of
-returns c = let a = c.args in
-    c.blend.ensures ∙ ap₂ (λ (l h : Evaluated). blend_of l h a.x (a.hi.tau -f a.lo.tau)) c.eval_tested.ensures c.eval_tested-2.ensures
+returns c = rw (← c.in_ok-l.ensures, ← c.in_ok-h.ensures) c.mixed.ensures

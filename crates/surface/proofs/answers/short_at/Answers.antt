@@ -1,9 +1,12 @@
 -- `surface::answers::short_at` meets its contract. Assumes nothing.
-use Rattle.surface.specs.Surface.{short_from, short_in}
-use Rattle.slice.specs.declared.Evaluated.{Evaluated}
-use mathlib.Core.Path.{ap, ◌∙◌}
+use Rattle.surface.specs.Surface.{short_from}
+use Rattle.refusals.proofs.Numbers.{handed_on}
 use Rattle.surface.proofs.answers.short_at.Goals as goal
+
+pub returns-in_err-v : goal.returns-in_err-v
+unfolding short_from
+returns-in_err-v c = rw (← c.in_err-v.ensures) (handed_on _ _ c.from_residual.ensures.1)
 
 pub returns : goal.returns
 unfolding short_from
-returns c = c.scaled.ensures ∙ ap (λ (e : Evaluated). short_in e c.args.tau c.args.first.tau) c.eval_tested.ensures
+returns c = rw (← c.in_ok-v.ensures) c.grown.ensures

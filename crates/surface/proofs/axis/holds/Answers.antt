@@ -1,17 +1,15 @@
-use Rattle.surface.specs.Axis.{held_of}
-use Rattle.laws.proofs.Loops.{again, ended}
-use mathlib.Core.Path.{refl, ap₂}
-use mathlib.Core.Bool.{◌||◌}
-use Prim.Native.Nat.{ℕ}
+-- `surface::axis::holds` meets its contract. Assumes nothing.
+use Rattle.std.proofs.Common.{rules, sym, ◌∙◌}
 use lib.Dec.{eqb}
+use lib.Ieee.{nan, binary64, to_bits}
+use Rattle.std.proofs.lemmas.Iterator.{YieldsList-from_slice}
+use Rattle.std.proofs.lemmas.Iterator.Search.{any_from_yields_List}
+use Rattle.surface.specs.Axis.{held_of}
+use Rattle.surface.proofs.Scans.{for_any}
 use Rattle.surface.proofs.axis.holds.Goals as goal
 
-pub loop-i-init : goal.loop-i-init
-unfolding held_of
-loop-i-init c = (refl, refl)
-
-pub loop-i-preserved : goal.loop-i-preserved
-loop-i-preserved c = (c.loop-i.invariant.0, again _ _ _ c.loop-i-test.true (ap₂ (λ (a b : ℕ). c.loop-i.found || eqb a b) c.bits_of.ensures c.bits_of-bits.ensures) c.loop-i.invariant.1)
-
 pub returns : goal.returns
-returns c = ended _ _ _ c.loop-i-test.false c.loop-i.invariant.1
+unfolding held_of
+returns c =
+    any_from_yields_List (λ y. eqb (to_bits binary64 y) (to_bits binary64 c.args.x)) c.any.new.self _ _ c.any.ensures.ran (YieldsList-from_slice c.args.v.now cc) (λ x b q k. search rules)
+    ∙ sym (for_any (λ y. eqb (to_bits binary64 y) (to_bits binary64 c.args.x)) nan c.args.v.now)

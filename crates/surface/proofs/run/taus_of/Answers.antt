@@ -8,7 +8,7 @@ unfolding taus_of
 loop-i-init c = refl
 
 pub loop-i-preserved : goal.loop-i-preserved
-loop-i-preserved c = again _ _ _ c.loop-i-test.true (refl) c.loop-i.invariant
+loop-i-preserved c = again _ _ _ c.loop-i-test.true refl c.loop-i.invariant
 
 pub returns : goal.returns
 returns c = ended _ _ _ c.loop-i-test.false c.loop-i.invariant

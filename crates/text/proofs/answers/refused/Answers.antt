@@ -1,9 +1,9 @@
 -- `text::answers::refused` meets its contract. Assumes nothing.
-use native.Mathlib.Omega.{arith}
+use Rattle.std.proofs.Common.{rules}
 use Rattle.text.specs.Answers.{refused_text}
-use Rattle.text.proofs.Writing.{then}
+use Rattle.text.proofs.Writing.{says_then}
 use Rattle.text.proofs.answers.refused.Goals as goal
 
-pub returns : goal.returns
+pub returns-clause-wrote : goal.returns-clause-wrote
 unfolding refused_text
-returns c = record { wrote = then c.read_line-p.ensures.wrote c.refusal.ensures.wrote; upper_bound = omega (arith, c.read_line-p.ensures.upper_bound, c.refusal.ensures.upper_bound) }
+returns-clause-wrote c = let all = says_then c.read_line.ensures.wrote c.refusal.ensures.wrote in search (rules, all)

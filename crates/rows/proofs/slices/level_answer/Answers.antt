@@ -1,8 +1,0 @@
--- `rows::slices::level_answer` meets its contract. Assumes nothing.
-use Rattle.rows.proofs.slices.level_answer.Goals as goal
-
-pub returns-in-Value : goal.returns-in-Value
-returns-in-Value c = rw c.in-Value.is
-
-pub returns-in-Refused : goal.returns-in-Refused
-returns-in-Refused c = rw c.in-Refused.is

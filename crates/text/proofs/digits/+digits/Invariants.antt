@@ -1,5 +1,0 @@
--- `text::digits::digits` meets its contract. Assumes nothing.
-use Rattle.text.proofs.digits.+digits.Given as goal
-
-abbrev pub decreases-digits : goal.decreases-digits
-decreases-digits l = l.f

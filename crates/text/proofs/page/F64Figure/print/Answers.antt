@@ -1,0 +1,7 @@
+-- `text::page::F64Figure::print` meets its contract. Assumes nothing.
+use Rattle.std.proofs.Common.{arith}
+use Rattle.text.proofs.Writing.{digits_short}
+use Rattle.text.proofs.page.F64Figure.print.Goals as goal
+
+pub returns-clause-upper_bound : goal.returns-clause-upper_bound
+returns-clause-upper_bound c = omega (arith, c.digits.ensures.wrote.next, digits_short 16 0 16 c.bits_of.result)
