@@ -20,11 +20,11 @@ ITEM = re.compile(
 
 
 class Item:
-    """One declaration. `public`: another crate can name it, or it is exported to C."""
+    """One declaration. `public`: another crate can name it, or it is exported to C. `of_trait`: a method that a trait names, so that no `pub` stands before it."""
 
     def __init__(self, kind, name, module, owner, path, visible):
         self.kind, self.name, self.module, self.owner, self.path, self.visible = kind, name, module, owner, path, visible
-        self.public = False
+        self.public = self.of_trait = False
         self.exported = False
         self.params = self.result = self.generics = ""
         self.clauses = []  # (keyword, text) in order; the name that a clause may have is left out
@@ -54,7 +54,7 @@ class Crate:
         types = {i.name: i.public for i in self.items if i.kind in ("struct", "enum")}
         for item in self.items:
             if item.owner:  # a method is as public as its type, wherever the impl stands
-                item.public = item.visible == "pub" and types.get(item.owner, False)
+                item.public = (item.visible == "pub" or item.of_trait) and types.get(item.owner, False)
 
     def relative(self, path):
         return os.path.relpath(path, self.root)
@@ -96,6 +96,7 @@ class Reader:
     def __init__(self, crate, text, path):
         self.crate, self.path = crate, path
         self.text, self.code = uncommented(text), blanked(text)
+        self.in_trait = False  # whether what is read stands in an `impl TRAIT for TYPE`
 
     def close(self, at):
         """The place after the bracket that closes the one at this place."""
@@ -145,14 +146,18 @@ class Reader:
             self.items(inside, reached, None, found.end(), close - 1)
             return close
         if found.group("impl") is not None:
-            of = re.sub(r"<.*?>", " ", found.group("impl")).split(" for ")[-1].split()
+            head = re.sub(r"<.*?>", " ", found.group("impl")).split(" for ")
+            of = head[-1].split()
             close = self.close(found.end() - 1)
+            self.in_trait = len(head) > 1
             self.items(module, public, of[0] if of else None, found.end(), close - 1)
+            self.in_trait = False
             return close
         name = found.group("declared") or found.group("function")
         item = Item(found.group("kind") or "fn", name, module, owner, self.path, visible)
         self.crate.items.append(item)
         item.exported = "extern" in (found.group("how") or "") and visible == "pub"
+        item.of_trait = self.in_trait
         item.public = visible == "pub" and (public or item.exported)
         if item.kind == "fn":
             return self.function(item, found.end(), end)

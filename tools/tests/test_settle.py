@@ -85,6 +85,21 @@ class Settle(Case):
         self.settle()
         self.assertEqual(self.settle("--check"), (1, ["settle: a::bare has no contract", "settle: 1 public functions in 1 crates"]))
 
+    def default(self, clause, head="pub struct"):
+        """A type with a method that a trait names."""
+        return f"{head} Pair {{\n    pub a: u64,\n}}\n\nimpl Default for Pair {{\n    ghost is_default = {{ λ p. p ≡ g }};\n\n    fn default() -> Pair\n{clause}    {{\n        Pair {{ a: 0 }}\n    }}\n}}\n"
+
+    def test_a_method_of_a_trait(self):
+        self.assertEqual(self.settled({"lib.rt": self.default("        ensures { result ≡ g }\n") + function("f")}), ["Pair::default", "f"])
+
+    def test_a_method_of_a_trait_without_a_contract(self):
+        self.tree({"lib.rt": self.default("") + function("f")})
+        self.settle()
+        self.assertEqual(self.settle("--check"), (1, ["settle: a::Pair::default has no contract", "settle: 1 public functions in 1 crates"]))
+
+    def test_a_method_of_a_trait_of_a_private_type(self):
+        self.assertEqual(self.settled({"lib.rt": self.default("", "struct") + function("f")}), ["f"])
+
     def test_const_functions_and_constants(self):
         self.assertEqual(self.settled({"lib.rt": "pub const N: [u64; 2] = [1, 2];\n" + function("f", "pub const fn")}), ["f"])
 

@@ -57,6 +57,13 @@ pub struct Normal {
     pub c: Line,
 }
 
+// The point of a face, where its system has one that is feasible, and how many entries of its matrix were updated.
+#[derive(Clone, Copy)]
+pub struct Point {
+    pub x: Option<[f64; 3]>,
+    pub updates: usize,
+}
+
 // A face that was tried: whether it qualifies, its objective, its point and itself. The default does not qualify.
 // Stays: the definitions that docs/PROMISES.md names (`try_of`, `face_tried`, `First` ..) and those of search read it as a record with `some`.
 #[derive(Clone, Copy, Default)]

@@ -5,17 +5,10 @@ ghost use Rattle.cell.specs.Cell.{slot_of, kkt_of, rhs_of, valued_of, tried_of, 
 ghost use Rattle.cell.specs.Shared.{block_of, side_of, system_answer};
 ghost use Rattle.cell.specs.Inner.{problem_with, point_tried};
 
-use crate::Tried;
 use crate::common::Common;
+use crate::{Point, Tried};
 use faces::Face;
 use solver::Solved;
-
-// The point of a face, where its system has one that is feasible, and how many entries of its matrix were updated.
-#[derive(Clone, Copy)]
-pub(crate) struct Point {
-    pub(crate) x: Option<[f64; 3]>,
-    pub(crate) updates: usize,
-}
 
 // Constraint c as row and column r of the matrix.
 fn slot(m: &mut [f64; 36], g: &[f64; 21], c: usize, r: usize)

@@ -25,15 +25,16 @@ pub struct Walk {
     pub previous: Option<Previous>,
 }
 
-fn gap_after(gap: Check, p: Option<Previous>, k: f64, w: f64, tolerance: f64) -> Check
-    ensures { result ≡ gap_of gap p k w tolerance }
+// The gap from the point before to one at which w is `now.value`. It stands at the earlier tau.
+fn gap_after(gap: Check, p: Option<Previous>, now: DiagnosticPoint, tolerance: f64) -> Check
+    ensures { result ≡ gap_of gap p now.k now.value tolerance }
 {
     match p {
         Some(before) => {
             let at = DiagnosticPoint {
-                k,
+                k: now.k,
                 tau: before.tau,
-                value: w - before.w,
+                value: now.value - before.w,
             };
             gap.recorded(at, tolerance)
         }
@@ -50,10 +51,11 @@ fn good(s: Walk, k: f64, tau: f64, r: Reading, tol: DiagnosticsConfig) -> Walk
         tau,
         value: r.w_tau,
     };
+    let level = DiagnosticPoint { k, tau, value: r.w };
     Walk {
         butterfly: s.butterfly.recorded(g, tol.butterfly_tolerance),
         slope: s.slope.recorded(rise, tol.calendar_tolerance),
-        gap: gap_after(s.gap, s.previous, k, r.w, tol.calendar_tolerance),
+        gap: gap_after(s.gap, s.previous, level, tol.calendar_tolerance),
         failed: s.failed,
         previous: Some(Previous { tau, w: r.w }),
     }

@@ -13,7 +13,7 @@ use Rattle.moves.specs.declared.Spot.{Spot}
 use Rattle.moves.specs.declared.Place.{Place}
 use Rattle.moves.specs.declared.Plan.{Plan}
 use Rattle.moves.specs.declared.Stage.{Stage}
-use Rattle.moves.specs.declared.Stage.TheVariants.{Going, Ended, Refused}
+use Rattle.moves.specs.declared.Stage.TheVariants.{Going, Ended, Refused, GoingRefused}
 use Rattle.moves.specs.declared.Search.{Search}
 use Rattle.moves.specs.Axis.{linspace_at}
 
@@ -22,11 +22,13 @@ abbrev pub goes_on : Stage → Bool
 goes_on Going = true
 goes_on Ended = false
 goes_on Refused = false
+goes_on GoingRefused = true
 
 abbrev pub was_refused : Stage → Bool
 was_refused Going = false
 was_refused Ended = false
 was_refused Refused = true
+was_refused GoingRefused = true
 
 abbrev pub is_going : Search → Bool
 is_going s = goes_on s.stage

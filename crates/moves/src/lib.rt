@@ -73,25 +73,26 @@ pub struct Plan {
     pub hs_max: f64,
 }
 
-// The search goes on, has ended, or was refused by a pass with no face.
+// The search goes on, has ended, or was refused by a pass with no face. No search is refused and goes on all the same, but `moved` answers for that state as for the others.
 #[derive(Clone, Copy, PartialEq, Eq)]
 pub enum Stage {
     Going,
     Ended,
     Refused,
+    GoingRefused,
 }
 
 impl Stage {
     pub fn goes_on(self) -> bool
         ensures { result ≡ goes_on self }
     {
-        self == Stage::Going
+        (self == Stage::Going) | (self == Stage::GoingRefused)
     }
 
     pub fn was_refused(self) -> bool
         ensures { result ≡ was_refused self }
     {
-        self == Stage::Refused
+        (self == Stage::Refused) | (self == Stage::GoingRefused)
     }
 }
 

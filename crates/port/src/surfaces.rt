@@ -25,7 +25,10 @@ pub fn port_check_point(k: f64, tau: f64) -> u32
 pub fn port_raw_total(w: f64, w_k: f64, w_kk: f64, w_tau: f64, total: &mut [f64; 4]) -> u32
     ensures { (result ≡ (total_answer (total_of w w_k w_kk w_tau)).number) × (total.new ≡ total_row (total_answer (total_of w w_k w_kk w_tau)).value) }
 {
-    rows::answers::write_total(TotalVariance::new(w, w_k, w_kk, w_tau), total)
+    rows::answers::write_total(
+        rows::numbered(TotalVariance::new(w, w_k, w_kk, w_tau)),
+        total,
+    )
 }
 
 // ---- a lent run of slices

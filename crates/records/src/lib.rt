@@ -5,7 +5,7 @@ ghost use Rattle.std.specs.Prelude.{◌≡◌};
 ghost use Rattle.refusals.specs.Numbers.{refusal_number, numbered};
 ghost use Rattle.records.specs.Settings.{defaults_of, settings_hold, sizes_hold};
 ghost use Rattle.records.specs.Observation.{passes as passesOf, observed_of};
-ghost use Rattle.records.specs.Answer.{refused_after, accepted_answer, failure_answer, answer_in};
+ghost use Rattle.records.specs.Answer.{refused_with, refused_after, accepted_answer, failure_answer, answer_in};
 
 use refusals::Refusal;
 use slice::{KRange, SviSlice};
@@ -204,6 +204,42 @@ fn accepted(f: SliceFit) -> FitAnswer
     }
 }
 
+// The answer of a refused fit: zeros but for what is handed in. It is told of any number.
+pub fn refusal(
+    number: u32,
+    observed: usize,
+    required: usize,
+    rmse: f64,
+    max: f64,
+    counts: Counts,
+) -> FitAnswer
+    ensures { result ≡ refused_with number observed required rmse max counts }
+{
+    FitAnswer {
+        number,
+        observed,
+        required,
+        rmse_vol: rmse,
+        max_rmse_vol: max,
+        slice: SviSlice {
+            tau: 0.0,
+            a: 0.0,
+            b: 0.0,
+            rho: 0.0,
+            m: 0.0,
+            sigma: 0.0,
+            k_range: KRange { lo: 0.0, hi: 0.0 },
+        },
+        objective: 0.0,
+        objective_params: 0.0,
+        lee_margin: 0.0,
+        a_margin: 0.0,
+        active: [false; 7],
+        counts,
+        capped: 0,
+    }
+}
+
 // A fit as it is told.
 // Stays flat: the rows of the C interface and the printed answer have its fields, and text's promises are of any number.
 pub fn told(fit: Result<SliceFit, FitFailure>) -> FitAnswer
@@ -211,28 +247,13 @@ pub fn told(fit: Result<SliceFit, FitFailure>) -> FitAnswer
 {
     match fit {
         Ok(f) => accepted(f),
-        Err(e) => FitAnswer {
-            number: e.why.number(),
-            observed: e.observed,
-            required: e.required,
-            rmse_vol: e.rmse_vol,
-            max_rmse_vol: e.max_rmse_vol,
-            slice: SviSlice {
-                tau: 0.0,
-                a: 0.0,
-                b: 0.0,
-                rho: 0.0,
-                m: 0.0,
-                sigma: 0.0,
-                k_range: KRange { lo: 0.0, hi: 0.0 },
-            },
-            objective: 0.0,
-            objective_params: 0.0,
-            lee_margin: 0.0,
-            a_margin: 0.0,
-            active: [false; 7],
-            counts: e.counts,
-            capped: 0,
-        },
+        Err(e) => refusal(
+            e.why.number(),
+            e.observed,
+            e.required,
+            e.rmse_vol,
+            e.max_rmse_vol,
+            e.counts,
+        ),
     }
 }

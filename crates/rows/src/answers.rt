@@ -1,14 +1,12 @@
 // The answers about points and surfaces as the rows of numbers that leave the library: the number of a refusal, or 0, and the values. A refusal carries zeros.
 ghost use Rattle.std.specs.Prelude.{◌≡◌, [], ◌∷◌};
-ghost use Rattle.refusals.specs.Numbers.{numbered};
 ghost use Rattle.rows.specs.Answers.{policy_of, policy_number, total_answer, no_diagnostics, bracket_for, region_for, total_for, covers_for, diagnosed_for, room_for, total_row, places_row, weight_in, is_calibrated, diagnosed_counts, diagnosed_worst, check_of, check_at, report_at};
 ghost use Rattle.rows.specs.Flag.{flag};
 
-use crate::told;
+use crate::{numbered, told, told_number};
 use diagnostics::report::{DiagnosticsConfig, SurfaceDiagnostics};
 use diagnostics::tally::{Check, DiagnosticPoint, Worst};
 use point::TotalVariance;
-use refusals::Refusal;
 use surface::types::{Bracket, Region, Run, ShortExpiryPolicy};
 
 // ---- a policy as a number
@@ -36,10 +34,11 @@ pub fn policy_number(policy: ShortExpiryPolicy) -> u32
 
 // ---- a record as its rows, and back
 
-pub fn write_total(t: Result<TotalVariance, Refusal>, total: &mut [f64; 4]) -> u32
-    ensures { (result ≡ (total_answer (numbered t)).number) × (total.new ≡ total_row (total_answer (numbered t)).value) }
+// Of any number in the place of a total variance.
+pub fn write_total(t: Result<TotalVariance, u32>, total: &mut [f64; 4]) -> u32
+    ensures { (result ≡ (total_answer t).number) × (total.new ≡ total_row (total_answer t).value) }
 {
-    let a = told(t, TotalVariance::default());
+    let a = told_number(t, TotalVariance::default());
     let v = a.value;
     *total = [v.w, v.w_k, v.w_kk, v.w_tau];
     a.number
@@ -173,10 +172,8 @@ pub fn region_of(run: Run, policy: u32, k: f64, tau: f64, calibrated: &mut [usiz
 pub fn total_of(run: Run, policy: u32, k: f64, tau: f64, total: &mut [f64; 4]) -> u32
     ensures { (result ≡ (total_for run policy k tau).number) × (total.new ≡ total_row (total_for run policy k tau).value) }
 {
-    write_total(
-        surface::answers::total_variance_run(run, policy_of(policy), k, tau),
-        total,
-    )
+    let t = surface::answers::total_variance_run(run, policy_of(policy), k, tau);
+    write_total(numbered(t), total)
 }
 
 pub fn covers_of(run: Run, ks: &[f64], taus: &[f64], all: &mut [usize; 1]) -> u32

@@ -18,17 +18,34 @@ pub struct Answer<T> {
     pub value: T,
 }
 
+// A value, or any number in its place, as they are told: `none` is the value beside such a number.
+pub fn told_number<T: Copy>(from: Result<T, u32>, none: T) -> Answer<T>
+    ensures { result ≡ told_as none from }
+{
+    match from {
+        Ok(value) => Answer { number: 0, value },
+        Err(number) => Answer {
+            number,
+            value: none,
+        },
+    }
+}
+
+// A result with its refusal's number in place of its name.
+pub fn numbered<T: Copy>(from: Result<T, Refusal>) -> Result<T, u32>
+    ensures { result ≡ numbered from }
+{
+    match from {
+        Ok(value) => Ok(value),
+        Err(refusal) => Err(refusal.number()),
+    }
+}
+
 // A result as it is told: `none` is the value of a refusal.
 pub fn told<T: Copy>(from: Result<T, Refusal>, none: T) -> Answer<T>
     ensures { result ≡ told_as none (numbered from) }
 {
-    match from {
-        Ok(value) => Answer { number: 0, value },
-        Err(refusal) => Answer {
-            number: refusal.number(),
-            value: none,
-        },
-    }
+    told_number(numbered(from), none)
 }
 
 // The number of the refusal of a check, or 0.

@@ -102,7 +102,8 @@ fn column<const COL: usize>(
         return Ok(left);
     }
     let p = pivot(m, COL);
-    if bits::unsigned(m[p * 8 + COL]) <= limit {
+    let small = bits::unsigned(m[p * 8 + COL]) <= limit;
+    if small {
         return Err(left - most(6 - COL));
     }
     swap(m, COL, p);

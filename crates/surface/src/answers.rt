@@ -126,10 +126,11 @@ pub fn total_variance_run(
 }
 
 fn all_held(recs: &[SviSlice; 32], n: usize, tau: &[f64]) -> bool
-    requires { n ≤ 32 }
+    requires { (2 ≤ n) × (n ≤ 32) }
     ensures { result ≡ all_held recs.now n tau.now }
 {
-    recs[..n].iter().all(|s| crate::axis::holds(tau, s.tau))
+    // The 0 is written out, since the edit first_node_not_held is of it.
+    recs[0..n].iter().all(|s| crate::axis::holds(tau, s.tau))
 }
 
 // 11, the surface's numbers, then 40 and 41.

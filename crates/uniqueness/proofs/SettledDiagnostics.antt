@@ -1,6 +1,6 @@
 -- No second answer meets the contract of a public function of crate `diagnostics`. Written by tools/settle from the contracts. Assumes nothing.
-use Rattle.diagnostics.specs.Diagnostics.{diagnose_of, report_clean}
-use Rattle.diagnostics.specs.Tally.{is_clean, recorded_of}
+use Rattle.diagnostics.specs.Diagnostics.{default_config, diagnose_of, report_clean}
+use Rattle.diagnostics.specs.Tally.{is_clean, no_check, recorded_of}
 use Rattle.diagnostics.specs.Walk.{butterfly_of, seen_on}
 use Rattle.diagnostics.specs.declared.points.Reading.{Reading}
 use Rattle.diagnostics.specs.declared.report.DiagnosticsConfig.{DiagnosticsConfig}
@@ -24,6 +24,10 @@ butterfly_g k w w_k w_kk h₁ h₂ = settled h₁ h₂
 pub seen_at : (run : Run) (nodes : Nodes) (policy : ShortExpiryPolicy) (k : Float) (tau : Float) {r₁ r₂ : Result Reading Refusal} → (numbered r₁ ≡ seen_on run.recs nodes.taus nodes.tols nodes.count policy k tau) → (numbered r₂ ≡ seen_on run.recs nodes.taus nodes.tols nodes.count policy k tau) → r₁ ≡ r₂
 seen_at run nodes policy k tau h₁ h₂ = one_answer h₁ h₂
 
+-- diagnostics::DiagnosticsConfig::default
+pub DiagnosticsConfig-default : {r₁ r₂ : DiagnosticsConfig} → (r₁ ≡ default_config) → (r₂ ≡ default_config) → r₁ ≡ r₂
+DiagnosticsConfig-default h₁ h₂ = settled h₁ h₂
+
 -- diagnostics::SurfaceDiagnostics::is_clean
 pub SurfaceDiagnostics-is_clean : (self : SurfaceDiagnostics) {r₁ r₂ : Bool} → (r₁ ≡ report_clean self) → (r₂ ≡ report_clean self) → r₁ ≡ r₂
 SurfaceDiagnostics-is_clean self h₁ h₂ = settled h₁ h₂
@@ -31,6 +35,10 @@ SurfaceDiagnostics-is_clean self h₁ h₂ = settled h₁ h₂
 -- diagnostics::diagnose_run
 pub diagnose_run : (run : Run) (policy : ShortExpiryPolicy) (ks : List Float) (axis : List Float) (tol : DiagnosticsConfig) (room : List Float) {r₁ r₂ : Result SurfaceDiagnostics Refusal} {room-exit₁ room-exit₂ : List Float} → ((numbered r₁ ≡ (diagnose_of run policy ks axis tol room).answer) × (room-exit₁ ≡ (diagnose_of run policy ks axis tol room).room)) → ((numbered r₂ ≡ (diagnose_of run policy ks axis tol room).answer) × (room-exit₂ ≡ (diagnose_of run policy ks axis tol room).room)) → (r₁ ≡ r₂) × (room-exit₁ ≡ room-exit₂)
 diagnose_run run policy ks axis tol room {r₁} {r₂} {room-exit₁} {room-exit₂} h₁ h₂ = (one_answer h₁.0 h₂.0, cc)
+
+-- diagnostics::Check::default
+pub Check-default : {r₁ r₂ : Check} → (r₁ ≡ no_check) → (r₂ ≡ no_check) → r₁ ≡ r₂
+Check-default h₁ h₂ = settled h₁ h₂
 
 -- diagnostics::Check::recorded
 pub Check-recorded : (self : Check) (point : DiagnosticPoint) (tolerance : Float) {r₁ r₂ : Check} → (r₁ ≡ recorded_of self point tolerance) → (r₂ ≡ recorded_of self point tolerance) → r₁ ≡ r₂

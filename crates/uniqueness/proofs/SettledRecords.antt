@@ -1,7 +1,7 @@
 -- No second answer meets the contract of a public function of crate `records`. Written by tools/settle from the contracts. Assumes nothing.
 use Rattle.laws.proofs.Choices.{settled}
 use Rattle.records.proofs.Fits.{one_failure}
-use Rattle.records.specs.Answer.{answer_in, failure_answer, refused_after}
+use Rattle.records.specs.Answer.{answer_in, failure_answer, refused_after, refused_with}
 use Rattle.records.specs.Observation.{observed_of, passes as passesOf}
 use Rattle.records.specs.Settings.{defaults_of, settings_hold, sizes_hold}
 use Rattle.records.specs.declared.Counts.{Counts}
@@ -38,6 +38,10 @@ sizes_hold_lem n config h₁ h₂ = settled h₁ h₂
 -- records::FitFailure::after
 pub FitFailure-after : (why : Refusal) (counts : Counts) {r₁ r₂ : FitFailure} → (failure_answer r₁ ≡ refused_after (refusal_number why) counts) → (failure_answer r₂ ≡ refused_after (refusal_number why) counts) → r₁ ≡ r₂
 FitFailure-after why counts h₁ h₂ = one_failure h₁ h₂
+
+-- records::refusal
+pub refusal : (number : ℕ) (observed : ℕ) (required : ℕ) (rmse : Float) (max : Float) (counts : Counts) {r₁ r₂ : FitAnswer} → (r₁ ≡ refused_with number observed required rmse max counts) → (r₂ ≡ refused_with number observed required rmse max counts) → r₁ ≡ r₂
+refusal number observed required rmse max counts h₁ h₂ = settled h₁ h₂
 
 -- records::told
 pub told : (fit : Result SliceFit FitFailure) {r₁ r₂ : FitAnswer} → (r₁ ≡ answer_in fit) → (r₂ ≡ answer_in fit) → r₁ ≡ r₂

@@ -24,7 +24,7 @@ pub policy_number_lem : (policy : ShortExpiryPolicy) {r₁ r₂ : ℕ} → (r₁
 policy_number_lem policy h₁ h₂ = settled h₁ h₂
 
 -- rows::write_total
-pub write_total : (t : Result TotalVariance Refusal) (total : List Float) {r₁ r₂ : ℕ} {total-exit₁ total-exit₂ : List Float} → ((r₁ ≡ (total_answer (numbered t)).number) × (total-exit₁ ≡ total_row (total_answer (numbered t)).value)) → ((r₂ ≡ (total_answer (numbered t)).number) × (total-exit₂ ≡ total_row (total_answer (numbered t)).value)) → (r₁ ≡ r₂) × (total-exit₁ ≡ total-exit₂)
+pub write_total : (t : Result TotalVariance ℕ) (total : List Float) {r₁ r₂ : ℕ} {total-exit₁ total-exit₂ : List Float} → ((r₁ ≡ (total_answer t).number) × (total-exit₁ ≡ total_row (total_answer t).value)) → ((r₂ ≡ (total_answer t).number) × (total-exit₂ ≡ total_row (total_answer t).value)) → (r₁ ≡ r₂) × (total-exit₁ ≡ total-exit₂)
 write_total t total {r₁} {r₂} {total-exit₁} {total-exit₂} h₁ h₂ = (cc, cc)
 
 -- rows::check_at
@@ -70,6 +70,14 @@ fit_counts_lem a h₁ h₂ = settled h₁ h₂
 -- rows::fit_values
 pub fit_values_lem : (a : FitAnswer) {r₁ r₂ : List Float} → (r₁ ≡ fit_values a) → (r₂ ≡ fit_values a) → r₁ ≡ r₂
 fit_values_lem a h₁ h₂ = settled h₁ h₂
+
+-- rows::told_number
+pub told_number : {T : Type 0} (from : Result T ℕ) (none : T) {r₁ r₂ : Answer T} → (r₁ ≡ told_as none from) → (r₂ ≡ told_as none from) → r₁ ≡ r₂
+told_number from none h₁ h₂ = settled h₁ h₂
+
+-- rows::numbered
+pub numbered_lem : {T : Type 0} (from : Result T Refusal) {r₁ r₂ : Result T ℕ} → (r₁ ≡ numbered from) → (r₂ ≡ numbered from) → r₁ ≡ r₂
+numbered_lem from h₁ h₂ = settled h₁ h₂
 
 -- rows::told
 pub told : {T : Type 0} (from : Result T Refusal) (none : T) {r₁ r₂ : Answer T} → (r₁ ≡ told_as none (numbered from)) → (r₂ ≡ told_as none (numbered from)) → r₁ ≡ r₂

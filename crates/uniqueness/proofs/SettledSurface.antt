@@ -7,7 +7,7 @@ use Rattle.refusals.specs.declared.Refusal.{Refusal}
 use Rattle.slice.specs.declared.SviSlice.{SviSlice}
 use Rattle.std.specs.Prelude.{Bool, Float, List, Result, ⊤, ◌≡◌}
 use Rattle.surface.specs.Axis.{grid_number, held_of, rising_of}
-use Rattle.surface.specs.Lookup.{bracket_of}
+use Rattle.surface.specs.Lookup.{bracket_of, default_policy}
 use Rattle.surface.specs.Runs.{check_run, run_of}
 use Rattle.surface.specs.Surface.{bracket_run, covers_run, nodes_of, region_run, surface_grid_number, total_run, variance_at}
 use Rattle.surface.specs.declared.types.Bracket.{Bracket}
@@ -67,3 +67,7 @@ Nodes-bracket self policy k tau h₁ h₂ = one_answer h₁ h₂
 -- surface::check_run
 pub check_run_lem : (run : Run) {r₁ r₂ : Result ⊤ Refusal} → (number_in r₁ ≡ check_run run) → (number_in r₂ ≡ check_run run) → r₁ ≡ r₂
 check_run_lem run h₁ h₂ = one_check h₁ h₂
+
+-- surface::ShortExpiryPolicy::default
+pub ShortExpiryPolicy-default : {r₁ r₂ : ShortExpiryPolicy} → (r₁ ≡ default_policy) → (r₂ ≡ default_policy) → r₁ ≡ r₂
+ShortExpiryPolicy-default h₁ h₂ = settled h₁ h₂

@@ -77,7 +77,7 @@ returns-in_err-fit c = let a = c.args in
 pub write_residuals-requires : goal.write_residuals-requires
 write_residuals-requires c = let a = c.args in
     let p = passed a.tau a.config a.k.now a.w.now a.weight.now _ _ (sym c.in_default.ensures) in
-    (p.sized.ws_long, p.rooms)
+    (p.sized.ws_long, omega (arith, p.sized.most, p.rooms))
 
 pub list_capped-m-requires : goal.list_capped-m-requires
 list_capped-m-requires c = let a = c.args in
