@@ -19,6 +19,8 @@ pub struct Answer<T> {
 }
 
 // A value, or any number in its place, as they are told: `none` is the value beside such a number.
+// Inlined, as `numbered` is: `port_total` takes 53 instructions without, and 43 so.
+#[inline(always)]
 pub fn told_number<T: Copy>(from: Result<T, u32>, none: T) -> Answer<T>
     ensures { result ≡ told_as none from }
 {
@@ -32,6 +34,7 @@ pub fn told_number<T: Copy>(from: Result<T, u32>, none: T) -> Answer<T>
 }
 
 // A result with its refusal's number in place of its name.
+#[inline(always)]
 pub fn numbered<T: Copy>(from: Result<T, Refusal>) -> Result<T, u32>
     ensures { result ≡ numbered from }
 {
